@@ -1,0 +1,153 @@
+-- A register grows: blocks and messages are only added, and what is in a view stays there. What was notarised stays notarised.
+use Prim.Native.Nat.{ℕ, _*_, _<_, _≤_}
+use mathlib.Core.Path.{_≡_, refl, sym, ap, ap₂, _∙_, subst⁻¹}
+use mathlib.Core.Bool.{Bool, true}
+use mathlib.Core.List.{List}
+use mathlib.Core.Logic.{⊎-elim}
+use native.Mathlib.Omega.{arith}
+use borrow.Author.Tests.{le-leb, leb-true}
+use lib.Dec.{eqb, ltb}
+use lib.ListN.{length}
+use Rattle.words.specs.Tests.{choose, both, every, member}
+use Rattle.words.specs.Digits.{digit}
+use Rattle.words.specs.Sums.{tally, unit, weigh}
+use Rattle.words.proofs.Tests.{both-left, both-right, both-make, either-cases, either-left, either-right, any-at, any-make, every-same}
+use Rattle.words.proofs.Sums.{weigh-more}
+use Rattle.register.specs.declared.table.Made.{Made}
+use Rattle.register.specs.declared.table.Sent.{Sent}
+use Rattle.register.specs.declared.table.Register.{Register}
+use Rattle.register.specs.Tables.{trusted, made, madeOf, parentOf, epochOf, sentOf}
+use Rattle.register.specs.Views.{inView, says, signed, signers, enough, notarised}
+use Rattle.register.specs.Chains.{chain, chainLength, valid, chainNotarised}
+use Rattle.register.proofs.Chains.{parent-le, on-chain-le, chain-kept}
+use Rattle.register.proofs.Views.{enough-make, enough-least}
+use Rattle.register.proofs.Finalising.{Consecutive}
+
+-- from register r to register s
+pub record Grows (r s : Register) : Type 0 where
+  pub n : s .n ≡ r .n
+  pub trust : s .trust ≡ r .trust
+  pub last : r .last .0 ≤ s .last .0
+  pub blocks : (b : ℕ) → b ≤ r .last .0 → madeOf s b ≡ madeOf r b
+  pub count : r .count ≤ s .count
+  pub messages : (m : ℕ) → m < r .count → sentOf s m ≡ sentOf r m
+  pub views : (q m : ℕ) → inView r q m ≡ true → inView s q m ≡ true
+
+pub grows-refl : (r : Register) → Grows r r
+grows-refl r =
+    record {
+      n = refl;
+      trust = refl;
+      last = omega arith;
+      blocks = λ b h. refl;
+      count = omega arith;
+      messages = λ m h. refl;
+      views = λ q m h. h;
+    }
+
+pub grows-trans : {r s t : Register} → Grows r s → Grows s t → Grows r t
+grows-trans g h =
+    record {
+      n = h .n ∙ g .n;
+      trust = h .trust ∙ g .trust;
+      last = omega (arith, g .last, h .last);
+      blocks = λ b l. h .blocks b (omega (arith, g .last)) ∙ g .blocks b l;
+      count = omega (arith, g .count, h .count);
+      messages = λ m l. h .messages m (omega (arith, g .count)) ∙ g .messages m l;
+      views = λ q m v. h .views q m (g .views q m v);
+    }
+
+module _ {r s : Register} (g : Grows r s) where
+  -- the same offices are trusted
+  pub trusted-kept : (q : ℕ) → trusted s q ≡ trusted r q
+  unfolding trusted
+  trusted-kept q = ap₂ (λ (n t : ℕ). both (ltb q n) (eqb (digit 2 t q) 1)) (g .n) (g .trust)
+
+  made-kept : (b : ℕ) → b ≤ r .last .0 → made s b ≡ made r b
+  unfolding made
+  made-kept b l = ap (both (ltb 0 b)) (le-leb b (s .last .0) (omega (arith, g .last)) ∙ sym (le-leb b (r .last .0) l))
+
+  -- a block that has been made stays made
+  pub made-grows : (b : ℕ) → made r b ≡ true → made s b ≡ true
+  unfolding made
+  made-grows b h = both-make _ _ (both-left _ _ h) (le-leb b (s .last .0) (omega (arith, g .last, leb-true b (r .last .0) (both-right _ _ h))))
+
+  -- a block keeps its parent
+  pub parent-kept : (b : ℕ) → b ≤ r .last .0 → parentOf s b ≡ parentOf r b
+  unfolding parentOf
+  parent-kept b l =
+      ap₂ (λ (t : Bool) (x : Made). choose (both t (ltb (x .parent .0) b)) (x .parent .0) 0) (made-kept b l) (g .blocks b l)
+
+  -- a block keeps its epoch
+  pub epoch-kept : (b : ℕ) → b ≤ r .last .0 → epochOf s b ≡ epochOf r b
+  unfolding epochOf
+  epoch-kept b l = ap₂ (λ (t : Bool) (x : Made). choose t (x .epoch .0) 0) (made-kept b l) (g .blocks b l)
+
+  -- a block keeps its chain
+  pub chain-same : (b : ℕ) → b ≤ r .last .0 → chain s b ≡ chain r b
+  chain-same b l = chain-kept r s b (λ x h. parent-kept x (omega arith))
+
+  -- a chain keeps its length
+  pub length-kept : (b : ℕ) → b ≤ r .last .0 → chainLength s b ≡ chainLength r b
+  unfolding chainLength
+  length-kept b l = ap length (chain-same b l)
+
+  -- a message keeps what it says
+  pub says-kept : (q b m : ℕ) → m < r .count → says s q b m ≡ says r q b m
+  unfolding says
+  says-kept q b m l = ap (λ (x : Sent). both (eqb (x .signer .0) q) (eqb (x .block .0) b)) (g .messages m l)
+
+  -- a signature that is in a view stays there
+  pub signed-kept : (q h b : ℕ) → signed r q h b ≡ true → signed s q h b ≡ true
+  unfolding signed
+  signed-kept q h b t =
+      let f : (m : ℕ) × (m < r .count) × (both (inView r q m) (says r h b m) ≡ true) = any-at _ (r .count) t in
+      any-make _ (s .count) (f .0) (omega (arith, f .1, g .count))
+      (both-make _ _ (g .views q (f .0) (both-left _ _ (f .2))) (says-kept h b (f .0) (f .1) ∙ both-right _ _ (f .2)))
+
+  -- a block that is notarised in a view stays so
+  pub notarised-kept : (q b : ℕ) → notarised r q b ≡ true → notarised s q b ≡ true
+  unfolding notarised signers tally
+  notarised-kept q b t =
+      let was : ℕ = weigh unit (r .n) (λ h. signed r q h b) in
+      let is : ℕ = weigh unit (r .n) (λ h. signed s q h b) in
+      let more : was ≤ is = weigh-more unit (r .n) _ _ (λ h l. signed-kept q h b) in
+      ⊎-elim (λ z. either-left _ _ z)
+      (λ e.
+      let still : 2 * r .n ≤ 3 * is = omega (arith, enough-least was (r .n) e) in
+      either-right _ _
+      (subst⁻¹ (λ (n : ℕ). enough (weigh unit n (λ h. signed s q h b)) n ≡ true) (g .n) (enough-make is (r .n) still)))
+      (either-cases _ _ t)
+
+  -- a chain that is notarised in a view stays so
+  pub chain-notarised-kept : (q b : ℕ) → b ≤ r .last .0 → chainNotarised r q b ≡ true → chainNotarised s q b ≡ true
+  unfolding chainNotarised valid
+  chain-notarised-kept q b l t =
+      let low : (x : ℕ) → member x (chain r b) ≡ true → x ≤ r .last .0 = λ x m. omega (arith, on-chain-le r x b m) in
+      let later : Register → ℕ → Bool = λ y x. ltb (epochOf y (parentOf y x)) (epochOf y x) in
+      let later-kept : (x : ℕ) → member x (chain r b) ≡ true → later s x ≡ later r x =
+      λ x m.
+      ap₂ (λ (e f : ℕ). ltb e f)
+      (ap (epochOf s) (parent-kept x (low x m)) ∙ epoch-kept (parentOf r x) (omega (arith, low x m, parent-le r x)))
+      (epoch-kept x (low x m)) in
+      both-make _ _
+      (subst⁻¹ (λ (c : List ℕ). every (later s) c ≡ true) (chain-same b l)
+      (every-same (later r) (later s) (chain r b) (λ x m h. later-kept x m ∙ h) (both-left _ _ t)))
+      (subst⁻¹ (λ (c : List ℕ). every (notarised s q) c ≡ true) (chain-same b l)
+      (every-same (notarised r q) (notarised s q) (chain r b) (λ x m. notarised-kept q x) (both-right _ _ t)))
+
+  -- three consecutive blocks stay so
+  pub consecutive-kept : {q b c d : ℕ} → b ≤ r .last .0 → Consecutive r q b c d → Consecutive s q b c d
+  consecutive-kept {q} {b} {c} {d} l t =
+      let lc : c ≤ r .last .0 = omega (arith, parent-le r b, t .parent) in
+      let ld : d ≤ r .last .0 = omega (arith, parent-le r c, t .grandparent) in
+      record {
+        parent = parent-kept b l ∙ t .parent;
+        grandparent = parent-kept c lc ∙ t .grandparent;
+        newest = t .newest;
+        middle = t .middle;
+        oldest = t .oldest;
+        one-later = omega (arith, epoch-kept c lc, epoch-kept d ld, t .one-later);
+        two-later = omega (arith, epoch-kept b l, epoch-kept d ld, t .two-later);
+        chain = chain-notarised-kept q b l (t .chain);
+      }

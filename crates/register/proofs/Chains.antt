@@ -1,0 +1,159 @@
+-- Laws of chains.
+use Prim.Native.Nat.{ℕ, zero, suc, _<_, _≤_}
+use mathlib.Core.Path.{_≡_, refl, sym, ap, _∙_, subst}
+use mathlib.Core.Bool.{Bool, true, false}
+use mathlib.Core.List.{List, [], _∷_}
+use mathlib.Core.Logic.{⊎-elim}
+use native.Mathlib.Omega.{arith}
+use native.Mathlib.Decide.{ℕ-discrete}
+use borrow.Author.Tests.{eq-eqb, eqb-true, ltb-true}
+use lib.Dec.{eqb, ltb}
+use lib.ListN.{length}
+use Rattle.words.specs.Tests.{choose, both, every, member}
+use Rattle.words.proofs.Tests.{both-left, both-right, both-make, either-cases, either-left, either-right, clash, every-at}
+use Rattle.register.specs.declared.table.Register.{Register}
+use Rattle.register.specs.Tables.{made, madeOf, parentOf, epochOf}
+use Rattle.register.specs.Views.{notarised}
+use Rattle.register.specs.Chains.{climb, chain, chainLength, valid, chainNotarised}
+
+-- a number that is kept only where a test says that it is below b, else 0, is below b
+kept-lt : (t : Bool) (x b : ℕ) → 0 < b → (t ≡ true → x < b) → choose t x 0 < b
+unfolding choose
+kept-lt true x b h k = k refl
+kept-lt false x b h k = h
+
+-- a parent's number is smaller
+pub parent-lt : (r : Register) (b : ℕ) → 0 < b → parentOf r b < b
+unfolding parentOf
+parent-lt r b h =
+    let p : ℕ = madeOf r b .parent .0 in
+    kept-lt (both (made r b) (ltb p b)) p b h (λ t. ltb-true p b (both-right (made r b) (ltb p b) t))
+
+-- genesis has no parent
+parent-genesis : (r : Register) → parentOf r 0 ≡ 0
+unfolding parentOf made both choose
+parent-genesis r = refl
+
+-- a parent's number is no greater, also that of genesis
+pub parent-le : (r : Register) (b : ℕ) → parentOf r b ≤ b
+parent-le r zero = omega (arith, parent-genesis r)
+parent-le r (suc b) = omega (arith, parent-lt r (suc b) (omega arith))
+
+-- a climb that may go on for at least b blocks from block b reaches genesis
+climb-same : (r : Register) (j k b : ℕ) → b ≤ j → b ≤ k → climb r j b ≡ climb r k b
+unfolding climb
+climb-same r zero zero b hj hk = refl
+climb-same r zero (suc k) zero hj hk = refl
+climb-same r zero (suc k) (suc b) hj hk = absurd (omega arith)
+climb-same r (suc j) zero zero hj hk = refl
+climb-same r (suc j) zero (suc b) hj hk = absurd (omega arith)
+climb-same r (suc j) (suc k) zero hj hk = refl
+climb-same r (suc j) (suc k) (suc b) hj hk =
+    let l : parentOf r (suc b) < suc b = parent-lt r (suc b) (omega arith) in
+    ap (λ (c : List ℕ). suc b ∷ c) (climb-same r j k (parentOf r (suc b)) (omega arith) (omega arith))
+
+-- the chain of genesis has no block besides it
+pub chain-genesis : (r : Register) → chain r 0 ≡ []
+unfolding chain climb
+chain-genesis r = refl
+
+-- the chain of any other block is the block on its parent's chain
+pub chain-step : (r : Register) (b : ℕ) → 0 < b → chain r b ≡ b ∷ chain r (parentOf r b)
+unfolding chain climb
+chain-step r zero h = absurd (omega arith)
+chain-step r (suc b) h =
+    let l : parentOf r (suc b) < suc b = parent-lt r (suc b) (omega arith) in
+    ap (λ (c : List ℕ). suc b ∷ c) (climb-same r b (parentOf r (suc b)) (parentOf r (suc b)) (omega arith) (omega arith))
+
+-- a rule on chains by induction: from genesis, and from each parent to its block
+pub chain-induction : (r : Register) (P : ℕ → Type 0) → P 0 → ((b : ℕ) → 0 < b → P (parentOf r b) → P b) → (b : ℕ) → P b
+chain-induction r P base step b = go b b (omega arith)
+  where
+    go : (k b : ℕ) → b ≤ k → P b
+    go zero zero h = base
+    go zero (suc b) h = absurd (omega arith)
+    go (suc k) zero h = base
+    go (suc k) (suc b) h = step (suc b) (omega arith) (go k (parentOf r (suc b)) (omega (arith, parent-lt r (suc b) (omega arith))))
+
+-- the length of the chain of genesis is 0
+pub length-genesis : (r : Register) → chainLength r 0 ≡ 0
+unfolding chainLength
+length-genesis r = ap length (chain-genesis r)
+
+-- any other block's chain is one longer than its parent's
+pub length-step : (r : Register) (b : ℕ) → 0 < b → chainLength r b ≡ suc (chainLength r (parentOf r b))
+unfolding chainLength
+length-step r b h = ap length (chain-step r b h)
+
+-- a block is on its own chain
+pub on-own-chain : (r : Register) (b : ℕ) → 0 < b → member b (chain r b) ≡ true
+unfolding member
+on-own-chain r b h = rw (chain-step r b h) (either-left (eqb b b) (member b (chain r (parentOf r b))) (eq-eqb b b refl))
+
+-- a block on the parent's chain is on the block's
+pub on-longer-chain : (r : Register) (b x : ℕ) → 0 < b → member x (chain r (parentOf r b)) ≡ true → member x (chain r b) ≡ true
+unfolding member
+on-longer-chain r b x h m = rw (chain-step r b h) (either-right (eqb x b) (member x (chain r (parentOf r b))) m)
+
+-- what holds of every block of a chain holds of every block of the parent's
+every-parent : (r : Register) (p : ℕ → Bool) (b : ℕ) → 0 < b → every p (chain r b) ≡ true → every p (chain r (parentOf r b)) ≡ true
+unfolding every
+every-parent r p b h e =
+    both-right (p b) (every p (chain r (parentOf r b))) (subst (λ (c : List ℕ). every p c ≡ true) (chain-step r b h) e)
+
+-- the parent's chain of a notarised chain is notarised
+pub notarised-parent : (r : Register) (q b : ℕ) → 0 < b → chainNotarised r q b ≡ true → chainNotarised r q (parentOf r b) ≡ true
+unfolding chainNotarised valid
+notarised-parent r q b h n =
+    both-make _ _ (every-parent r (λ x. ltb (epochOf r (parentOf r x)) (epochOf r x)) b h (both-left _ _ n))
+    (every-parent r (notarised r q) b h (both-right _ _ n))
+
+-- every block of a notarised chain is notarised
+pub notarised-on : (r : Register) (q b x : ℕ) → chainNotarised r q b ≡ true → member x (chain r b) ≡ true → notarised r q x ≡ true
+unfolding chainNotarised
+notarised-on r q b x n m = every-at (notarised r q) (chain r b) x (both-right _ _ n) m
+
+-- a block on the chain of b is no greater than b
+pub on-chain-le : (r : Register) (x b : ℕ) → member x (chain r b) ≡ true → x ≤ b
+unfolding member
+on-chain-le r x =
+    chain-induction r (λ (b : ℕ). member x (chain r b) ≡ true → x ≤ b)
+    (λ m. clash (subst (λ (c : List ℕ). member x c ≡ true) (chain-genesis r) m) refl)
+    (λ b h ih m.
+    ⊎-elim (λ e. omega (arith, eqb-true x b e)) (λ l. omega (arith, ih l, parent-lt r b h))
+    (either-cases (eqb x b) (member x (chain r (parentOf r b))) (subst (λ (c : List ℕ). member x c ≡ true) (chain-step r b h) m)))
+
+-- a block on the chain of b whose own chain has length k
+pub record Ancestor (r : Register) (b k : ℕ) : Type 0 where
+  pub block : ℕ
+  pub on-chain : member block (chain r b) ≡ true
+  pub above-genesis : 0 < block
+  pub length : chainLength r block ≡ k
+
+-- a chain has a block of each length from 1 up to its own
+pub ancestor : (r : Register) (k b : ℕ) → 0 < k → k ≤ chainLength r b → Ancestor r b k
+ancestor r k b pos =
+    chain-induction r (λ (b : ℕ). k ≤ chainLength r b → Ancestor r b k) (λ l. absurd (omega (arith, length-genesis r)))
+    (λ b h ih l.
+    elim (ℕ-discrete (chainLength r b) k) as (λ _. Ancestor r b k) [
+      | yes e ↦ record { block = b; on-chain = on-own-chain r b h; above-genesis = h; length = e }
+      | no d ↦ let a : Ancestor r (parentOf r b) k = ih (omega (arith, d, length-step r b h)) in
+          record {
+            block = a .block;
+            on-chain = on-longer-chain r b (a .block) h (a .on-chain);
+            above-genesis = a .above-genesis;
+            length = a .length;
+          }
+    ])
+    b
+
+-- two registers that agree on the parents of all blocks up to b agree on the chain of b
+pub chain-kept : (r s : Register) (b : ℕ) → ((x : ℕ) → x ≤ b → parentOf s x ≡ parentOf r x) → chain s b ≡ chain r b
+chain-kept r s =
+    chain-induction r (λ (b : ℕ). ((x : ℕ) → x ≤ b → parentOf s x ≡ parentOf r x) → chain s b ≡ chain r b)
+    (λ same. chain-genesis s ∙ sym (chain-genesis r))
+    (λ b h ih same.
+    chain-step s b h
+    ∙ ap (λ (x : ℕ). b ∷ chain s x) (same b (omega arith))
+    ∙ ap (λ (c : List ℕ). b ∷ c) (ih (λ x l. same x (omega (arith, parent-lt r b h))))
+    ∙ sym (chain-step r b h))

@@ -1,0 +1,29 @@
+-- `register::opening::count_untrusted`: the trusted and the untrusted offices are n together.
+use borrow.Author.Needs.{needs}
+use Prim.Native.Nat.{_+_}
+use mathlib.Core.Path.{_≡_}
+use native.Mathlib.Omega.{arith}
+use lib.Dec.{eqb}
+use Rattle.words.specs.Digits.{digit}
+use Rattle.words.proofs.Sums.{tally-not}
+use Rattle.register.specs.Opening.{untrusted}
+use Rattle.register.proofs.opening.count_untrusted.Statement.{statement}
+use Rattle.register.proofs.opening.count_untrusted.Tie as tie
+
+members-requires : tie.Need-members-requires
+members-requires c κs = search needs
+
+-- the trusted and the untrusted offices are n
+split : (c : tie.After-members) → c .members .result + untrusted (c .before .args .n) (c .before .args .trust) ≡ c .before .args .n
+unfolding untrusted
+split c = rw (c .members .ensures) (tally-not (c .before .args .n) (λ q. eqb (digit 2 (c .before .args .trust) q) 1))
+
+sub-result : tie.Need-sub-result
+sub-result c = omega (arith, split c)
+
+returns : tie.Need-returns
+unfolding untrusted
+returns c = omega (arith, split c)
+
+pub count-untrusted-spec : {M : Type 1} → statement M
+count-untrusted-spec = tie.close (tie.spec members-requires sub-result returns)

@@ -1,0 +1,96 @@
+-- `register::opening::opening_refusal` answers the number of the first test that holds.
+use borrow.Author.Needs.{needs}
+use Prim.Native.Nat.{_*_}
+use mathlib.Core.Path.{_≡_, sym, _∙_}
+use mathlib.Core.Bool.{true, false}
+use native.Mathlib.Omega.{arith}
+use borrow.Author.Tests.{not-true, not-false, le-leb, lt-leb}
+use lib.ListN.{length}
+use Rattle.words.specs.Tests.{choose}
+use Rattle.words.specs.Refusals.{first}
+use Rattle.register.specs.Fitness.{between}
+use Rattle.register.specs.Opening.{untrusted, tooMany, stray, openingRefusal}
+use Rattle.register.proofs.OpeningLaws.{untrusted-most}
+use Rattle.register.proofs.opening.opening_refusal.Statement.{statement}
+use Rattle.register.proofs.opening.opening_refusal.Tie as tie
+
+between-requires : tie.Need-between-requires
+between-requires c κs = search needs
+
+returns : tie.Need-returns
+unfolding openingRefusal first choose
+returns c = rw (sym (c .before .between .ensures) ∙ not-true _ (c .if1 .taken))
+
+-- past the first test the number of offices is in its range
+count : (c : tie.Else1) → between 1 32 (c .before .before .before .args .n) ≡ true
+count c = sym (c .before .between .ensures) ∙ not-false _ (c .if1 .left)
+
+between-requires-2 : tie.Need-between-requires-2
+between-requires-2 c κs = search needs
+
+returns-2 : tie.Need-returns-2
+unfolding openingRefusal first choose
+returns-2 c = rw (count (c .before .before), sym (c .before .between2 .ensures) ∙ not-true _ (c .if2 .taken))
+
+-- past the second the schedule's length is
+schedule : (c : tie.Else2) → between 1 256 (length (c .before .before .before .before .before .args .schedule .now)) ≡ true
+schedule c = sym (c .before .between2 .ensures) ∙ not-false _ (c .if2 .left)
+
+has-stray-requires : tie.Need-has-stray-requires
+has-stray-requires c κs = search needs
+
+returns-3 : tie.Need-returns-3
+unfolding openingRefusal first choose
+returns-3 c =
+    rw (count (c .before .before .before .before), schedule (c .before .before), sym (c .before .has-stray .ensures) ∙ c .if3 .taken)
+
+-- past the third every leader is an office
+led : (c : tie.Else3)
+    → stray (c .before .before .before .before .before .before .before .args .n)
+    (c .before .before .before .before .before .before .before .args .schedule .now) ≡ false
+led c = sym (c .before .has-stray .ensures) ∙ c .if3 .left
+
+count-untrusted-requires : tie.Need-count-untrusted-requires
+count-untrusted-requires c κs = search needs
+
+mul-if4 : tie.Need-mul-if4
+mul-if4 c =
+    let start : tie.Start = c .before .before .before .before .before .before .before .before in
+    omega (arith, c .count-untrusted .ensures, untrusted-most (start .args .n) (start .args .trust))
+
+returns-4 : tie.Need-returns-4
+unfolding openingRefusal first choose tooMany
+returns-4 c =
+    let start : tie.Start = c .before .before .before .before .before .before .before .before .before in
+    rw (
+      count (c .before .before .before .before .before .before),
+      schedule (c .before .before .before .before),
+      led (c .before .before),
+      le-leb (start .args .n) (3 * untrusted (start .args .n) (start .args .trust)) (omega (arith, c .before .count-untrusted .ensures)),
+    )
+
+returns-5 : tie.Need-returns-5
+unfolding openingRefusal first choose tooMany
+returns-5 c =
+    let start : tie.Start = c .before .before .before .before .before .before .before .before .before in
+    rw (
+      count (c .before .before .before .before .before .before),
+      schedule (c .before .before .before .before),
+      led (c .before .before),
+      lt-leb (start .args .n) (3 * untrusted (start .args .n) (start .args .trust)) (omega (arith, c .before .count-untrusted .ensures)),
+    )
+
+pub opening-refusal-spec : {M : Type 1} → statement M
+opening-refusal-spec =
+    tie.close
+    (tie.spec
+    between-requires
+    returns
+    between-requires-2
+    returns-2
+    has-stray-requires
+    returns-3
+    count-untrusted-requires
+    mul-if4
+    returns-4
+    returns-5)

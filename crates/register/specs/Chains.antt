@@ -1,0 +1,45 @@
+-- Chains. A chain is the list of its blocks, newest first, without genesis, which every chain starts from.
+use Prim.Native.Nat.{ℕ, zero, suc, _+_}
+use mathlib.Core.Bool.{Bool, true, not}
+use mathlib.Core.List.{List, [], _∷_}
+use lib.Dec.{ltb}
+use lib.ListN.{length}
+use Rattle.words.specs.Tests.{both, any, every, member}
+use Rattle.register.specs.declared.table.Register.{Register}
+use Rattle.register.specs.Tables.{parentOf, epochOf}
+use Rattle.register.specs.Views.{notarised}
+
+-- at most so many blocks on the way from block b to genesis, from parent to parent
+unfoldable pub climb : Register → (most : ℕ) → (b : ℕ) → List ℕ
+climb r zero b = []
+climb r (suc k) zero = []
+climb r (suc k) (suc b) = suc b ∷ climb r k (parentOf r (suc b))
+
+-- the chain of block b. A parent's number is smaller, so b blocks reach genesis.
+unfoldable pub chain : Register → ℕ → List ℕ
+chain r b = climb r b b
+
+-- the length of block b's chain, genesis not counted
+unfoldable pub chainLength : Register → ℕ → ℕ
+chainLength r b = length (chain r b)
+
+-- one chain begins another: its last block is on the other. Genesis is on every chain.
+unfoldable pub begins : List ℕ → List ℕ → Bool
+begins [] chain = true
+begins (newest ∷ older) chain = member newest chain
+
+-- the chain of block b is valid: the epoch of each of its blocks is greater than its parent's
+unfoldable pub valid : Register → ℕ → Bool
+valid r b = every (λ x. ltb (epochOf r (parentOf r x)) (epochOf r x)) (chain r b)
+
+-- the chain of block b is notarised in office q's view: it is valid and all its blocks are notarised there
+unfoldable pub chainNotarised : Register → ℕ → ℕ → Bool
+chainNotarised r q b = both (valid r b) (every (notarised r q) (chain r b))
+
+-- block x's chain is notarised in office q's view and longer than block b's
+unfoldable pub longer : Register → ℕ → ℕ → ℕ → Bool
+longer r q b x = both (chainNotarised r q x) (ltb (chainLength r b) (chainLength r x))
+
+-- the chain of block b is longest in office q's view: it is notarised there and no notarised chain of that view is longer
+unfoldable pub longest : Register → ℕ → ℕ → Bool
+longest r q b = both (chainNotarised r q b) (not (any (r .last .0 + 1) (longer r q b)))

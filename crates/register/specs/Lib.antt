@@ -1,0 +1,9 @@
+-- The rules of the register. Read in this order.
+pub mod Tables
+pub mod Views
+pub mod Chains
+pub mod Fitness
+pub mod Refusals
+pub mod Opening
+pub mod Effects
+pub mod Steps

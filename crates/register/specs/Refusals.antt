@@ -1,0 +1,100 @@
+-- The tests behind a step's refusals, by the words of their numbers. Each is made on the register as it was handed in.
+use Prim.Native.Nat.{ℕ, _+_}
+use mathlib.Core.Bool.{Bool, not}
+use mathlib.Core.List.{[], _∷_}
+use lib.Dec.{eqb, ltb, leb}
+use Rattle.words.specs.Tests.{both, either, any, conj}
+use Rattle.register.specs.declared.sorts.Kind.{Kind}
+use Rattle.register.specs.declared.table.Register.{Register}
+use Rattle.register.specs.Tables.{trusted, leaderOf, parentOf, epochOf, named, sentOf, signerOf, blockOf, isVote, sameKind}
+use Rattle.register.specs.Views.{inTransit, inInbox, signed, says}
+use Rattle.register.specs.Chains.{chainNotarised, longest}
+
+-- 6: the number is not below n
+unfoldable pub noOffice : Register → ℕ → Bool
+noOffice r q = leb (r .n) q
+
+-- 7: the number is above the last block
+unfoldable pub noBlock : Register → ℕ → Bool
+noBlock r b = ltb (r .last .0) b
+
+-- 8: the number has not been sent yet
+unfoldable pub noMessage : Register → ℕ → Bool
+noMessage r m = leb (r .count) m
+
+-- 9: an epoch above 511
+unfoldable pub wide : ℕ → Bool
+wide epoch = ltb 511 epoch
+
+-- 10: the actor is untrusted. 11, a trusted sender, is `trusted`; 12 is `acted`.
+unfoldable pub barred : Register → ℕ → Bool
+barred r q = not (trusted r q)
+
+-- 13 where it fails, 14 where it holds: the office is the leader of the current epoch
+unfoldable pub leads : Register → ℕ → Bool
+leads r q = eqb (leaderOf r (r .epoch .0)) q
+
+-- 15: the message is not in the office's inbox
+unfoldable pub notInHand : Register → ℕ → ℕ → Bool
+notInHand r q m = not (inInbox r q m)
+
+-- 16 where it holds in a vote, and where it fails in a register: the message is a vote and no proposal
+unfoldable pub votes : Register → ℕ → Bool
+votes r m = isVote (sentOf r m .kind)
+
+-- 17: the message's signer is not the leader, or its block's epoch is not the current one
+unfoldable pub offEpoch : Register → ℕ → Bool
+offEpoch r m = either (not (leads r (signerOf r m))) (not (eqb (epochOf r (blockOf r m)) (r .epoch .0)))
+
+-- 18: the signature of the message's signer on the message's block is in the office's view
+unfoldable pub entered : Register → ℕ → ℕ → Bool
+entered r q m = signed r q (signerOf r m) (blockOf r m)
+
+-- 19: the parent's chain is not notarised in the office's view, or not longest there
+unfoldable pub notLongest : Register → ℕ → ℕ → Bool
+notLongest r q parent = not (longest r q parent)
+
+-- 20: the block's epoch is not above its parent's
+unfoldable pub epochs : (epoch : ℕ) → (parent : ℕ) → Bool
+epochs epoch parent = leb epoch parent
+
+-- block b, its parent c and c's parent d are not genesis, their epochs are k + 2, k + 1 and k, and b's chain is notarised in
+-- the office's view
+unfoldable pub finalises : Register → ℕ → ℕ → Bool
+finalises r q b =
+    conj
+    (not (eqb b 0)
+    ∷ not (eqb (parentOf r b) 0)
+    ∷ not (eqb (parentOf r (parentOf r b)) 0)
+    ∷ eqb (epochOf r (parentOf r b)) (epochOf r (parentOf r (parentOf r b)) + 1)
+    ∷ eqb (epochOf r b) (epochOf r (parentOf r (parentOf r b)) + 2)
+    ∷ chainNotarised r q b
+    ∷ [])
+
+-- 21: the condition for finalising is unmet
+unfoldable pub notFinal : Register → ℕ → ℕ → Bool
+notFinal r q b = not (finalises r q b)
+
+-- a message of that kind, signer and block has been sent
+unfoldable pub inHistory : Register → Kind → ℕ → ℕ → Bool
+inHistory r kind signer b = any (r .count) (λ m. both (sameKind (sentOf r m .kind) kind) (says r signer b m))
+
+-- 22: the signer is trusted, and this kind, signer and block are not in the history
+unfoldable pub forged : Register → Kind → ℕ → ℕ → Bool
+forged r kind signer b = both (trusted r signer) (not (inHistory r kind signer b))
+
+-- 23: the message is not in transit to the office
+unfoldable pub notSent : Register → ℕ → ℕ → Bool
+notSent r q m = not (inTransit r q m)
+
+-- 24: the current epoch is the schedule's last
+unfoldable pub spent : Register → Bool
+spent r = leb (r .length) (r .epoch .0)
+
+-- 25: a new block is needed, and there are 255
+unfoldable pub blocksFull : Register → ℕ → ℕ → ℕ → Bool
+blocksFull r parent epoch payload = both (ltb (r .last .0) (named r parent epoch payload)) (leb 255 (r .last .0))
+
+-- 26: there are 1,024 messages
+unfoldable pub messagesFull : Register → Bool
+messagesFull r = leb 1024 (r .count)

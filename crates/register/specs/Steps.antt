@@ -1,0 +1,197 @@
+-- The eight steps. Each has its tests in the order in which they are made, its effect and its value; test 5, of the register itself,
+-- comes before them all.
+use Prim.Native.Nat.{ℕ, _+_}
+use mathlib.Core.Bool.{Bool, not}
+use mathlib.Core.List.{List, [], _∷_}
+use lib.Dec.{eqb}
+use Rattle.words.specs.Tests.{choose, either}
+use Rattle.words.specs.Refusals.{Refusal, _⇒_, first}
+use Rattle.register.specs.declared.sorts.Office.{Office}
+use Rattle.register.specs.declared.sorts.Epoch.{Epoch}
+use Rattle.register.specs.declared.sorts.Block.{Block}
+use Rattle.register.specs.declared.sorts.Message.{Message}
+use Rattle.register.specs.declared.sorts.Kind.{Kind}
+use Rattle.register.specs.declared.sorts.Kind.the-variants as kinds
+use Rattle.register.specs.declared.step.Step.{Step}
+use Rattle.register.specs.declared.step.Step.the-variants as steps
+use Rattle.register.specs.declared.table.Register.{Register}
+use Rattle.register.specs.declared.table.Stepped.{Stepped}
+use Rattle.register.specs.Tables.{trusted, acted, office, block, parentOf, epochOf, named, blockOf}
+use Rattle.register.specs.Fitness.{fit}
+use Rattle.register.specs.Refusals.{
+  noOffice,
+  noBlock,
+  noMessage,
+  wide,
+  barred,
+  leads,
+  notInHand,
+  votes,
+  offEpoch,
+  entered,
+  notLongest,
+  epochs,
+  notFinal,
+  forged,
+  notSent,
+  spent,
+  blocksFull,
+  messagesFull,
+}
+use Rattle.register.specs.Effects.{withNamed, withSent, withMoved, withActed, withFinal, withNextEpoch}
+
+-- what a step's rule says: its tests, and what an accepted step gives
+pub record Rule : Type 0 where
+  pub tests : List Refusal
+  pub effect : Register
+  pub value : ℕ
+
+-- Propose: the block of the current epoch is named; its proposal is sent, is in the office's view, and the office has acted.
+unfoldable pub propose : Register → Office → Block → (payload : ℕ) → Rule
+propose r office parent w =
+    let q : ℕ = office .0 in
+    let p : ℕ = parent .0 in
+    let e : ℕ = r .epoch .0 in
+    record {
+      tests =
+          (noOffice r q ⇒ 6)
+          ∷ (noBlock r p ⇒ 7)
+          ∷ (barred r q ⇒ 10)
+          ∷ (acted r q ⇒ 12)
+          ∷ (not (leads r q) ⇒ 13)
+          ∷ (notLongest r q p ⇒ 19)
+          ∷ (epochs e (epochOf r p) ⇒ 20)
+          ∷ (blocksFull r p e w ⇒ 25)
+          ∷ (messagesFull r ⇒ 26)
+          ∷ [];
+      effect =
+          withActed
+          (withSent (withNamed r p e w) q (record { kind = kinds.Proposal; signer = office; block = block (named r p e w) }))
+          q;
+      value = r .count;
+    }
+
+-- Vote: the proposal moves from inbox to view; a vote for its block is sent and is in the view; the office has acted.
+unfoldable pub vote : Register → Office → Message → Rule
+vote r office message =
+    let q : ℕ = office .0 in
+    let m : ℕ = message .0 in
+    let b : ℕ = blockOf r m in
+    record {
+      tests =
+          (noOffice r q ⇒ 6)
+          ∷ (noMessage r m ⇒ 8)
+          ∷ (barred r q ⇒ 10)
+          ∷ (acted r q ⇒ 12)
+          ∷ (leads r q ⇒ 14)
+          ∷ (notInHand r q m ⇒ 15)
+          ∷ (votes r m ⇒ 16)
+          ∷ (offEpoch r m ⇒ 17)
+          ∷ (entered r q m ⇒ 18)
+          ∷ (notLongest r q (parentOf r b) ⇒ 19)
+          ∷ (epochs (epochOf r b) (epochOf r (parentOf r b)) ⇒ 20)
+          ∷ (messagesFull r ⇒ 26)
+          ∷ [];
+      effect = withActed (withSent (withMoved r m q) q (record { kind = kinds.Vote; signer = office; block = block b })) q;
+      value = r .count;
+    }
+
+-- Register: a vote moves from inbox to view.
+unfoldable pub register : Register → Office → Message → Rule
+register r office message =
+    let q : ℕ = office .0 in
+    let m : ℕ = message .0 in
+    record {
+      tests =
+          (noOffice r q ⇒ 6)
+          ∷ (noMessage r m ⇒ 8)
+          ∷ (barred r q ⇒ 10)
+          ∷ (notInHand r q m ⇒ 15)
+          ∷ (not (votes r m) ⇒ 16)
+          ∷ (entered r q m ⇒ 18)
+          ∷ [];
+      effect = withMoved r m q;
+      value = m;
+    }
+
+-- Finalise: the final block becomes the parent of a block that meets the condition.
+unfoldable pub finalise : Register → Office → Block → Rule
+finalise r office newest =
+    let q : ℕ = office .0 in
+    let b : ℕ = newest .0 in
+    record {
+      tests = (noOffice r q ⇒ 6) ∷ (noBlock r b ⇒ 7) ∷ (barred r q ⇒ 10) ∷ (notFinal r q b ⇒ 21) ∷ [];
+      effect = withFinal r q (parentOf r b);
+      value = parentOf r b;
+    }
+
+-- Deliver: a message moves from transit to the inbox.
+unfoldable pub deliver : Register → Message → Office → Rule
+deliver r message office =
+    let q : ℕ = office .0 in
+    let m : ℕ = message .0 in
+    record {
+      tests = (noOffice r q ⇒ 6) ∷ (noMessage r m ⇒ 8) ∷ (notSent r q m ⇒ 23) ∷ [];
+      effect = withMoved r m q;
+      value = m;
+    }
+
+-- Bad send: an untrusted office sends what it likes, but for the signatures of trusted offices that they never sent. Block 0 is
+-- refused with 7.
+unfoldable pub badSend : Register → Office → Kind → Office → Block → Rule
+badSend r sender kind signer about =
+    let b : ℕ = about .0 in
+    record {
+      tests =
+          (either (noOffice r (sender .0)) (noOffice r (signer .0)) ⇒ 6)
+          ∷ (either (eqb b 0) (noBlock r b) ⇒ 7)
+          ∷ (trusted r (sender .0) ⇒ 11)
+          ∷ (forged r kind (signer .0) b ⇒ 22)
+          ∷ (messagesFull r ⇒ 26)
+          ∷ [];
+      effect = withSent r (sender .0) (record { kind = kind; signer = signer; block = about });
+      value = r .count;
+    }
+
+-- Draft: names a block, sends nothing.
+unfoldable pub draft : Register → Block → Epoch → (payload : ℕ) → Rule
+draft r parent epoch w =
+    let p : ℕ = parent .0 in
+    let e : ℕ = epoch .0 in
+    record {
+      tests = (noBlock r p ⇒ 7) ∷ (wide e ⇒ 9) ∷ (blocksFull r p e w ⇒ 25) ∷ [];
+      effect = withNamed r p e w;
+      value = named r p e w;
+    }
+
+-- Advance: next epoch, every trusted office ready.
+unfoldable pub advance : Register → Rule
+advance r = record { tests = (spent r ⇒ 24) ∷ []; effect = withNextEpoch r; value = r .epoch .0 + 1 }
+
+-- the rule of a step
+unfoldable pub ruleOf : Register → Step → Rule
+ruleOf r (steps.Propose office parent payload) = propose r office parent payload
+ruleOf r (steps.Vote office message) = vote r office message
+ruleOf r (steps.Register office message) = register r office message
+ruleOf r (steps.Finalise office newest) = finalise r office newest
+ruleOf r (steps.Deliver message office) = deliver r message office
+ruleOf r (steps.BadSend sender kind signer about) = badSend r sender kind signer about
+ruleOf r (steps.Draft parent epoch payload) = draft r parent epoch payload
+ruleOf r steps.Advance = advance r
+
+-- the refusal of a step: 5 where the register is not fit, else the first of the rule's tests that holds
+unfoldable pub refusal : (fits : Bool) → Rule → ℕ
+refusal fits rule = first ((not fits ⇒ 5) ∷ rule .tests)
+
+-- a refused step leaves the register as it was, with value 0; an accepted one gives the effect and the value
+unfoldable pub judged : (fits : Bool) → Register → Rule → Stepped
+judged fits r rule =
+    record {
+      register = choose (eqb (refusal fits rule) 0) (rule .effect) r;
+      refusal = refusal fits rule;
+      value = choose (eqb (refusal fits rule) 0) (rule .value) 0;
+    }
+
+-- what a step gives
+unfoldable pub stepRule : Register → Step → Stepped
+stepRule r step = judged (fit r) r (ruleOf r step)

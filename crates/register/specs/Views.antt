@@ -1,0 +1,56 @@
+-- Where a message is for an office, what stands in an office's view, and when a block is notarised there.
+use Prim.Native.Nat.{ℕ, _*_}
+use mathlib.Core.Bool.{Bool}
+use lib.Dec.{eqb, ltb, leb}
+use lib.ListN.{getD}
+use Rattle.words.specs.Tests.{choose, both, either, any}
+use Rattle.words.specs.Sums.{tally}
+use Rattle.words.specs.Digits.{digit}
+use Rattle.register.specs.declared.table.Register.{Register}
+use Rattle.register.specs.Tables.{trusted, signerOf, blockOf}
+
+-- the four stages of a message for an office
+abbrev pub absent : ℕ
+absent = 0
+
+abbrev pub transit : ℕ
+transit = 1
+
+abbrev pub inbox : ℕ
+inbox = 2
+
+abbrev pub view : ℕ
+view = 3
+
+-- the stage of message m for office q. An untrusted office keeps nothing, and what was not sent is nowhere.
+unfoldable pub stage : Register → ℕ → ℕ → ℕ
+stage r q m = choose (both (trusted r q) (ltb m (r .count))) (digit 4 (getD (r .places) m 0) q) absent
+
+unfoldable pub inTransit : Register → ℕ → ℕ → Bool
+inTransit r q m = eqb (stage r q m) transit
+
+unfoldable pub inInbox : Register → ℕ → ℕ → Bool
+inInbox r q m = eqb (stage r q m) inbox
+
+unfoldable pub inView : Register → ℕ → ℕ → Bool
+inView r q m = eqb (stage r q m) view
+
+-- message m has that signer and that block
+unfoldable pub says : Register → ℕ → ℕ → ℕ → Bool
+says r signer b m = both (eqb (signerOf r m) signer) (eqb (blockOf r m) b)
+
+-- a signature on block b is in office q's view: a message there has that signer and that block
+unfoldable pub signed : Register → (q : ℕ) → (signer : ℕ) → (b : ℕ) → Bool
+signed r q signer b = any (r .count) (λ m. both (inView r q m) (says r signer b m))
+
+-- how many different offices' signatures on block b are in office q's view
+unfoldable pub signers : Register → ℕ → ℕ → ℕ
+signers r q b = tally (r .n) (λ signer. signed r q signer b)
+
+-- so many signers of n offices are enough: 3 × signers ≥ 2 × n
+unfoldable pub enough : (signers : ℕ) → (n : ℕ) → Bool
+enough signers n = leb (2 * n) (3 * signers)
+
+-- block b is notarised in office q's view; genesis always is
+unfoldable pub notarised : Register → ℕ → ℕ → Bool
+notarised r q b = either (eqb b 0) (enough (signers r q b) (r .n))

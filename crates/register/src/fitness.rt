@@ -1,0 +1,133 @@
+// Whether a register is fit: every number in it is in its range.
+ghost use mathlib.Core.Path.{_≡_};
+ghost use mathlib.Core.Bool.{not};
+ghost use mathlib.Core.List.{[], _∷_};
+ghost use Prim.Native.Nat.{_+_, _≤_};
+ghost use lib.Dec.{eqb, ltb, leb};
+ghost use lib.ListN.{getD};
+ghost use Rattle.words.specs.Tests.{both, either, conj, all};
+ghost use Rattle.words.specs.Digits.{digit};
+ghost use Rattle.register.specs.Tables.{office, epoch, block};
+ghost use Rattle.register.specs.Fitness.{between, blockFits, messageFits, fit};
+use crate::sorts::Block;
+use crate::sorts::Epoch;
+use crate::sorts::Office;
+use crate::table::Register;
+
+// low ≤ k ≤ high
+pub fn between(low: usize, high: usize, k: usize) -> bool
+    ensures { λ r. ⌜ r ≡ between low high k ⌝ }
+{
+    (low <= k) & (k <= high)
+}
+
+// The single numbers are in their ranges.
+fn counts_fit(n: u8, length: u16, epoch: Epoch, count: u16) -> bool
+    ensures { λ r. ⌜ r ≡ conj (between 1 32 n ∷ between 1 256 length ∷ between 1 length (epoch .0) ∷ leb count 1024 ∷ []) ⌝ }
+{
+    between(1, 32, n as usize)
+        & between(1, 256, length as usize)
+        & between(1, length as usize, epoch.0 as usize)
+        & (count <= 1024)
+}
+
+// Every leader of the schedule is an office.
+fn leaders_fit(leaders: [Office; 256], length: usize, n: u8) -> bool
+    requires { ⌜ length ≤ 256 ⌝ }
+    ensures { λ r. ⌜ r ≡ all length (λ i. ltb (getD leaders i (office 0) .0) n) ⌝ }
+{
+    let mut fits = true;
+    let mut i = 0;
+    while i < length {
+        fits = fits & (leaders[i].0 < n);
+        i += 1;
+    }
+    fits
+}
+
+// A block has a smaller parent, and an epoch up to 511.
+fn block_fits(b: u8, parent: Block, epoch: Epoch) -> bool
+    ensures { λ r. ⌜ r ≡ blockFits b (parent .0) (epoch .0) ⌝ }
+{
+    (parent.0 < b) & (epoch.0 <= 511)
+}
+
+// Every block from 1 to the last fits.
+fn blocks_fit(parents: [Block; 256], epochs: [Epoch; 256], last: u8) -> bool
+    ensures { λ r. ⌜ r ≡ all last (λ k. blockFits (k + 1) (getD parents (k + 1) (block 0) .0) (getD epochs (k + 1) (epoch 0) .0)) ⌝ }
+{
+    let mut fits = true;
+    let mut k = 0;
+    while k < last {
+        let b = k + 1;
+        let at = b as usize;
+        fits = fits & block_fits(b, parents[at], epochs[at]);
+        k += 1;
+    }
+    fits
+}
+
+// A message has an office for its signer and a block that has been made, genesis excepted.
+fn message_fits(n: u8, last: u8, signer: Office, subject: Block) -> bool
+    ensures { λ r. ⌜ r ≡ messageFits n last (signer .0) (subject .0) ⌝ }
+{
+    (signer.0 < n) & ((1 <= subject.0) & (subject.0 <= last))
+}
+
+// Every message sent fits.
+fn messages_fit(
+    signers: [Office; 1024],
+    subjects: [Block; 1024],
+    count: usize,
+    n: u8,
+    last: u8,
+) -> bool
+    requires { ⌜ count ≤ 1024 ⌝ }
+    ensures { λ r. ⌜ r ≡ all count (λ m. messageFits n last (getD signers m (office 0) .0) (getD subjects m (block 0) .0)) ⌝ }
+{
+    let mut fits = true;
+    let mut m = 0;
+    while m < count {
+        fits = fits & message_fits(n, last, signers[m], subjects[m]);
+        m += 1;
+    }
+    fits
+}
+
+// Every trusted office's final block is genesis or has been made.
+fn finals_fit(finals: [Block; 32], n: u8, trust: u32, last: u8) -> bool
+    requires { ⌜ n ≤ 32 ⌝ }
+    ensures { λ r. ⌜ r ≡ all n (λ q. either (not (both (ltb q n) (eqb (digit 2 trust q) 1))) (leb (getD finals q (block 0) .0) last)) ⌝ }
+{
+    let mut fits = true;
+    let mut q = 0;
+    while q < n {
+        fits = fits & (!words::has(trust, q) | (finals[q as usize].0 <= last));
+        q += 1;
+    }
+    fits
+}
+
+impl Register {
+    // Every number of the register is in its range. The counts come first, so that no table is read past its end.
+    pub fn is_fit(self) -> bool
+        ensures { λ r. ⌜ r ≡ fit self ⌝ }
+    {
+        let length = self.length;
+        let count = self.count;
+        let last = self.last.0;
+        if !counts_fit(self.n, length, self.epoch, count) {
+            return false;
+        }
+        let leaders = self.leaders;
+        let parents = self.parents;
+        let epochs = self.epochs;
+        let signers = self.signers;
+        let subjects = self.subjects;
+        let finals = self.finals;
+        leaders_fit(leaders, length as usize, self.n)
+            & blocks_fit(parents, epochs, last)
+            & messages_fit(signers, subjects, count as usize, self.n, last)
+            & finals_fit(finals, self.n, self.trust, last)
+    }
+}

@@ -1,0 +1,19 @@
+// The shared register of plots: the offices' numbers, the register, its opening and the steps that change it.
+mod fitness;
+mod opening;
+pub mod refusal;
+pub mod sorts;
+pub mod step;
+pub mod table;
+
+pub use sorts::Block;
+pub use sorts::Epoch;
+pub use sorts::Kind;
+pub use sorts::Message;
+pub use sorts::Office;
+pub use step::Step;
+pub use table::Made;
+pub use table::Opened;
+pub use table::Register;
+pub use table::Sent;
+pub use table::Stepped;

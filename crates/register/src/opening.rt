@@ -1,0 +1,137 @@
+// Opening a register.
+ghost use mathlib.Core.Path.{_≡_};
+ghost use Prim.Native.Nat.{_≤_};
+ghost use lib.ListN.{length};
+ghost use Rattle.register.specs.Opening.{untrusted, stray, openingRefusal, leaderTable, blank, closed, fresh, opening};
+use crate::fitness::between;
+use crate::refusal;
+use crate::sorts::Block;
+use crate::sorts::Epoch;
+use crate::sorts::Office;
+use crate::table::Opened;
+use crate::table::Register;
+
+// How many of the n offices have the trust bit 0.
+fn count_untrusted(n: u8, trust: u32) -> u32
+    ensures { λ r. ⌜ r ≡ untrusted n trust ⌝ }
+{
+    n as u32 - words::members(trust, n)
+}
+
+// Some leader of the schedule is no office.
+fn has_stray(n: u8, schedule: &[u8]) -> bool
+    ensures { λ r. ⌜ r ≡ stray n (now (schedule .entry)) ⌝ }
+{
+    let mut found = false;
+    let mut i = 0;
+    while i < schedule.len() {
+        found = found | (schedule[i] >= n);
+        i += 1;
+    }
+    found
+}
+
+// The number of the refusal that the opening meets first, 0 where it meets none.
+fn opening_refusal(n: u8, trust: u32, schedule: &[u8]) -> u8
+    ensures { λ r. ⌜ r ≡ openingRefusal n trust (now (schedule .entry)) ⌝ }
+{
+    if !between(1, 32, n as usize) {
+        return refusal::COUNT;
+    }
+    if !between(1, 256, schedule.len()) {
+        return refusal::SCHEDULE;
+    }
+    if has_stray(n, schedule) {
+        return refusal::STRAY_LEADER;
+    }
+    if 3 * count_untrusted(n, trust) >= n as u32 {
+        return refusal::THIRD;
+    }
+    0
+}
+
+// The table of leaders: the schedule, and office 0 past its end.
+fn leader_table(schedule: &[u8]) -> [Office; 256]
+    requires { ⌜ length (now schedule) ≤ 256 ⌝ }
+    ensures { λ r. ⌜ r ≡ leaderTable (now (schedule .entry)) ⌝ }
+{
+    let mut leaders = [Office(0); 256];
+    let mut i = 0;
+    while i < schedule.len() {
+        leaders[i] = Office(schedule[i]);
+        i += 1;
+    }
+    leaders
+}
+
+// A register of that epoch with no blocks but genesis and no messages, in which all are ready.
+fn blank(n: u8, trust: u32, length: u16, epoch: u16, leaders: [Office; 256]) -> Register
+    ensures { λ r. ⌜ r ≡ blank n trust length epoch leaders ⌝ }
+{
+    let parents = [Block(0); 256];
+    let epochs = [Epoch(0); 256];
+    let payloads = [0u16; 256];
+    let votes = [false; 1024];
+    let signers = [Office(0); 1024];
+    let subjects = [Block(0); 1024];
+    let places = [0u64; 1024];
+    let finals = [Block(0); 32];
+    Register {
+        n,
+        trust,
+        length,
+        leaders,
+        epoch: Epoch(epoch),
+        last: Block(0),
+        parents,
+        epochs,
+        payloads,
+        count: 0,
+        votes,
+        signers,
+        subjects,
+        places,
+        acted: 0,
+        finals,
+    }
+}
+
+// The register of a refused opening: no offices, and every other field 0, empty or ready.
+fn closed() -> Register
+    ensures { λ r. ⌜ r ≡ closed ⌝ }
+{
+    blank(0, 0, 0, 0, [Office(0); 256])
+}
+
+// The register of an opening that is not refused; trust bits from n up are stored as 0.
+fn fresh(n: u8, trust: u32, schedule: &[u8]) -> Register
+    requires { ⌜ length (now schedule) ≤ 256 ⌝ }
+    ensures { λ r. ⌜ r ≡ fresh n trust (now (schedule .entry)) ⌝ }
+{
+    blank(
+        n,
+        words::below(trust, n),
+        schedule.len() as u16,
+        1,
+        leader_table(schedule),
+    )
+}
+
+impl Register {
+    // Opens a register for n offices, with a leader for each epoch of the schedule.
+    pub fn open(n: u8, trust: u32, schedule: &[u8]) -> Opened
+        ensures { λ r. ⌜ r ≡ opening n trust (now (schedule .entry)) ⌝ }
+    {
+        let refusal = opening_refusal(n, trust, schedule);
+        if refusal == 0 {
+            return Opened {
+                register: fresh(n, trust, schedule),
+                refusal,
+            };
+        }
+        Opened {
+            register: closed(),
+            refusal,
+        }
+    }
+}

@@ -1,0 +1,53 @@
+// The numbers of refusal of an opening and of a step; 0 stands for none.
+
+pub const COUNT: u8 = 1;
+
+pub const SCHEDULE: u8 = 2;
+
+pub const STRAY_LEADER: u8 = 3;
+
+pub const THIRD: u8 = 4;
+
+pub const UNFIT_REGISTER: u8 = 5;
+
+pub const NO_OFFICE: u8 = 6;
+
+pub const NO_BLOCK: u8 = 7;
+
+pub const NO_MESSAGE: u8 = 8;
+
+pub const WIDE: u8 = 9;
+
+pub const BARRED: u8 = 10;
+
+pub const TRUSTED_SENDER: u8 = 11;
+
+pub const ACTED: u8 = 12;
+
+pub const NOT_LEADER: u8 = 13;
+
+pub const LEADER_VOTES: u8 = 14;
+
+pub const NOT_IN_HAND: u8 = 15;
+
+pub const KIND: u8 = 16;
+
+pub const OFF_EPOCH: u8 = 17;
+
+pub const ENTERED: u8 = 18;
+
+pub const NOT_LONGEST: u8 = 19;
+
+pub const EPOCHS: u8 = 20;
+
+pub const NOT_FINAL: u8 = 21;
+
+pub const FORGED: u8 = 22;
+
+pub const NOT_SENT: u8 = 23;
+
+pub const SPENT: u8 = 24;
+
+pub const BLOCKS_FULL: u8 = 25;
+
+pub const MESSAGES_FULL: u8 = 26;

@@ -1,0 +1,5 @@
+-- The laws of the definitions in specs/, a file for each.
+pub mod Tests
+pub mod Sums
+pub mod Refusals
+pub mod Digits

@@ -1,0 +1,173 @@
+-- What follows from a test that holds, and what makes it hold.
+use Prim.Native.Nat.{ℕ, zero, suc, _<_, _+_}
+use mathlib.Core.Path.{_≡_, refl, sym, ap, subst}
+use mathlib.Core.Bool.{Bool, true, false, _&&_, _||_}
+use mathlib.Core.List.{List, [], _∷_}
+use mathlib.Core.Logic.{_⊎_, inl, inr, ⊎-elim}
+use native.Mathlib.Omega.{arith}
+use native.Mathlib.Numerals.{add-one}
+use native.Mathlib.Decide.{ℕ-discrete}
+use borrow.Author.Tests.{eqb-true, eq-eqb}
+use lib.Dec.{eqb}
+use Rattle.words.specs.Tests.{choose, both, either, all, any, every, member, lowest, conj}
+
+-- no test both holds and fails
+pub clash : {A : Type 0} {t : Bool} → t ≡ true → t ≡ false → A
+clash {t = t} h k = let z : _≡_ {A = ℕ} 0 1 = cc in absurd (omega arith)
+
+-- a test holds or fails
+pub decided : (t : Bool) → (t ≡ true) ⊎ (t ≡ false)
+decided true = inl refl
+decided false = inr refl
+
+pub both-left : (a b : Bool) → both a b ≡ true → a ≡ true
+unfolding both
+both-left true b h = refl
+both-left false b h = h
+
+pub both-right : (a b : Bool) → both a b ≡ true → b ≡ true
+unfolding both
+both-right true b h = h
+both-right false b h = clash h refl
+
+pub both-make : (a b : Bool) → a ≡ true → b ≡ true → both a b ≡ true
+unfolding both
+both-make true b h k = k
+both-make false b h k = h
+
+-- where two tests do not both hold and the first does, the second fails
+pub both-false : (a b : Bool) → both a b ≡ false → a ≡ true → b ≡ false
+unfolding both
+both-false true b h k = h
+both-false false b h k = clash k refl
+
+pub either-cases : (a b : Bool) → either a b ≡ true → (a ≡ true) ⊎ (b ≡ true)
+unfolding either
+either-cases true b h = inl refl
+either-cases false b h = inr h
+
+pub either-left : (a b : Bool) → a ≡ true → either a b ≡ true
+unfolding either
+either-left true b h = refl
+either-left false b h = clash h refl
+
+pub either-right : (a b : Bool) → b ≡ true → either a b ≡ true
+unfolding either
+either-right true b h = refl
+either-right false b h = h
+
+-- where neither of two tests holds, the first fails
+pub either-false-left : (a b : Bool) → either a b ≡ false → a ≡ false
+unfolding either
+either-false-left true b h = h
+either-false-left false b h = refl
+
+-- where neither of two tests holds, the second fails
+pub either-false-right : (a b : Bool) → either a b ≡ false → b ≡ false
+unfolding either
+either-false-right true b h = clash refl h
+either-false-right false b h = h
+
+module _ (p : ℕ → Bool) where
+  -- what holds of all numbers below n holds of each
+  pub all-at : (n k : ℕ) → all n p ≡ true → k < n → p k ≡ true
+  unfolding all
+  all-at zero k h l = absurd (omega arith)
+  all-at (suc n) k h l =
+      elim (ℕ-discrete k n) as (λ _. p k ≡ true) [
+        | yes e ↦ subst (λ (x : ℕ). p x ≡ true) (sym e) (both-right (all n p) (p n) h)
+        | no d ↦ all-at n k (both-left (all n p) (p n) h) (omega (arith, d))
+      ]
+
+  -- what holds of each number below n holds of all
+  pub all-make : (n : ℕ) → ((k : ℕ) → k < n → p k ≡ true) → all n p ≡ true
+  unfolding all
+  all-make zero h = refl
+  all-make (suc n) h = both-make (all n p) (p n) (all-make n (λ k l. h k (omega arith))) (h n (omega arith))
+
+  -- a number below n of which the test holds
+  pub any-at : (n : ℕ) → any n p ≡ true → (k : ℕ) × (k < n) × (p k ≡ true)
+  unfolding any
+  any-at zero h = clash h refl
+  any-at (suc n) h =
+      ⊎-elim (λ l. let f : (k : ℕ) × (k < n) × (p k ≡ true) = any-at n l in (f .0, omega (arith, f .1), f .2))
+      (λ r. (n, omega arith, r)) (either-cases (any n p) (p n) h)
+
+  pub any-make : (n k : ℕ) → k < n → p k ≡ true → any n p ≡ true
+  unfolding any
+  any-make zero k l h = absurd (omega arith)
+  any-make (suc n) k l h =
+      elim (ℕ-discrete k n) as (λ _. either (any n p) (p n) ≡ true) [
+        | yes e ↦ either-right (any n p) (p n) (subst (λ (x : ℕ). p x ≡ true) e h)
+        | no d ↦ either-left (any n p) (p n) (any-make n k (omega (arith, d)) h)
+      ]
+
+  -- where the test holds of no number below n, it fails of each
+  pub any-none : (n k : ℕ) → any n p ≡ false → k < n → p k ≡ false
+  any-none n k h l = ⊎-elim (λ t. clash (any-make n k l t) h) (λ f. f) (decided (p k))
+
+-- the lowest number is below n and the test holds of it, or it is n
+abbrev pub Lowest : (n : ℕ) → (ℕ → Bool) → ℕ → Type 0
+Lowest n p k = ((k < n) × (p k ≡ true)) ⊎ (k ≡ n)
+
+lowest-step : (n : ℕ) (p : ℕ → Bool) (t : Bool) (k : ℕ) → p zero ≡ t → Lowest n (λ i. p (suc i)) k
+    → Lowest (suc n) p (choose t zero (suc k))
+unfolding choose
+lowest-step n p true k e h = inl (omega arith, e)
+lowest-step n p false k e (inl h) = inl (omega (arith, h .0), h .1)
+lowest-step n p false k e (inr h) = inr (ap suc h)
+
+pub lowest-is : (n : ℕ) (p : ℕ → Bool) → Lowest n p (lowest n p)
+unfolding lowest
+lowest-is zero p = inr refl
+lowest-is (suc n) p = lowest-step n p (p zero) (lowest n (λ i. p (suc i))) refl (lowest-is n (λ i. p (suc i)))
+
+-- what holds of every entry of a list holds of each
+pub every-at : (p : ℕ → Bool) (xs : List ℕ) (k : ℕ) → every p xs ≡ true → member k xs ≡ true → p k ≡ true
+unfolding every member
+every-at p [] k h m = clash m refl
+every-at p (x ∷ xs) k h m =
+    ⊎-elim (λ e. subst (λ (y : ℕ). p y ≡ true) (sym (eqb-true k x e)) (both-left (p x) (every p xs) h))
+    (λ l. every-at p xs k (both-right (p x) (every p xs) h) l) (either-cases (eqb k x) (member k xs) m)
+
+-- two tests that agree on every entry of a list agree on the list
+pub every-same : (p q : ℕ → Bool) (xs : List ℕ) → ((k : ℕ) → member k xs ≡ true → p k ≡ true → q k ≡ true)
+    → every p xs ≡ true → every q xs ≡ true
+unfolding every member
+every-same p q [] h e = refl
+every-same p q (x ∷ xs) h e =
+    both-make (q x) (every q xs)
+    (h x (either-left (eqb x x) (member x xs) (eq-eqb x x refl)) (both-left (p x) (every p xs) e))
+    (every-same p q xs (λ k m. h k (either-right (eqb k x) (member k xs) m)) (both-right (p x) (every p xs) e))
+
+-- the code's `&` of two tests
+pub and-both : (a b : Bool) → a && b ≡ both a b
+unfolding both
+and-both true b = refl
+and-both false b = refl
+
+-- the code's `|` of two tests
+pub or-either : (a b : Bool) → a || b ≡ either a b
+unfolding either
+or-either true b = refl
+or-either false b = refl
+
+module _ (p : ℕ → Bool) (i : ℕ) (so-far t : Bool) where
+  -- a loop's next turn: the numbers below i have been tested, and now number i
+  pub all-next : so-far ≡ all i p → t ≡ p i → so-far && t ≡ all (i + 1) p
+  unfolding all
+  all-next h e = rw (h, e, and-both, add-one)
+
+  -- the same where one number that passes is enough
+  pub any-next : so-far ≡ any i p → t ≡ p i → so-far || t ≡ any (i + 1) p
+  unfolding any
+  any-next h e = rw (h, e, or-either, add-one)
+
+-- the code's `&` of four tests
+pub and-four : (a b c d : Bool) → a && b && c && d ≡ conj (a ∷ b ∷ c ∷ d ∷ [])
+unfolding conj both
+and-four true true true true = refl
+and-four true true true false = refl
+and-four true true false d = refl
+and-four true false c d = refl
+and-four false b c d = refl

@@ -1,0 +1,25 @@
+-- `words::only_stage` is a power of 4, and 0 past the word.
+use borrow.Author.Needs.{needs}
+use mathlib.Core.Path.{sym}
+use native.Mathlib.Nat.{one-mul}
+use Rattle.words.proofs.Digits.{pow-past, four-pow}
+use Rattle.words.proofs.only_stage.Statement.{statement}
+use Rattle.words.proofs.only_stage.Tie as tie
+
+returns : tie.Need-returns
+returns c = sym (pow-past 4 (c .before .args .q) 32 (search needs))
+
+mul-result : tie.Need-mul-result
+mul-result c = search needs
+
+cast-result : tie.Need-cast-result
+cast-result c = search needs
+
+shl-result : tie.Need-shl-result
+shl-result c = search needs
+
+returns-2 : tie.Need-returns-2
+returns-2 c = rw (one-mul, four-pow (c .before .args .q))
+
+pub only-stage-spec : {M : Type 1} → statement M
+only-stage-spec = tie.close (tie.spec returns mul-result cast-result shl-result returns-2)

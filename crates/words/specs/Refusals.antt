@@ -1,0 +1,19 @@
+-- A list of numbered tests in the order in which they are made, and the number that it answers.
+use Prim.Native.Nat.{ℕ, zero}
+use mathlib.Core.Bool.{Bool}
+use mathlib.Core.List.{List, [], _∷_}
+use Rattle.words.specs.Tests.{choose}
+
+infix 20 _⇒_
+-- a test and the number of the refusal that it brings
+pub record Refusal : Type 0 where
+  pub test : Bool
+  pub number : ℕ
+
+abbrev pub _⇒_ : Bool → ℕ → Refusal
+t ⇒ k = record { test = t; number = k }
+
+-- the number of the first test that holds, 0 where none does
+unfoldable pub first : List Refusal → ℕ
+first [] = zero
+first (r ∷ rs) = choose (r .test) (r .number) (first rs)
