@@ -25,7 +25,7 @@ use Rattle.register.proofs.Places.{Placed, placed, placed-stage, placed-within}
 use Rattle.agreement.proofs.Growth.{Grows, grows-refl}
 
 -- a change of epoch, marks and final blocks
-quiet : (r : Register) (e : Epoch) (a : ℕ) (f : List Block)
+quiet : (r : Register) (e : Epoch) (a : ℕ) (f : List ℕ)
     → Grows r
     (record {
       n = r .n;
@@ -63,7 +63,7 @@ grows-acted r q = quiet r (r .epoch) (raise 2 (r .acted) q) (r .finals)
 
 pub grows-final : (r : Register) (q b : ℕ) → Grows r (withFinal r q b)
 unfolding withFinal
-grows-final r q b = quiet r (r .epoch) (r .acted) (set (r .finals) q (block b))
+grows-final r q b = quiet r (r .epoch) (r .acted) (set (r .finals) q b)
 
 pub grows-epoch : (r : Register) → Grows r (withNextEpoch r)
 unfolding withNextEpoch

@@ -16,8 +16,8 @@ use Rattle.words.proofs.Sums.{weigh-more}
 use Rattle.register.specs.declared.table.Made.{Made}
 use Rattle.register.specs.declared.table.Sent.{Sent}
 use Rattle.register.specs.declared.table.Register.{Register}
-use Rattle.register.specs.Tables.{trusted, made, madeOf, parentOf, epochOf, sentOf}
-use Rattle.register.specs.Views.{inView, says, signed, signers, enough, notarised}
+use Rattle.register.specs.Tables.{trustedIn, trusted, madeIn, made, madeOf, parentIn, parentOf, epochIn, epochOf, sentOf}
+use Rattle.register.specs.Views.{inView, saysIn, says, signed, signers, enough, notarised}
 use Rattle.register.specs.Chains.{chain, chainLength, valid, chainNotarised}
 use Rattle.register.proofs.Chains.{parent-le, on-chain-le, chain-kept}
 use Rattle.register.proofs.Views.{enough-make, enough-least}
@@ -61,26 +61,26 @@ module _ {r s : Register} (g : Grows r s) where
   -- the same offices are trusted
   pub trusted-kept : (q : ℕ) → trusted s q ≡ trusted r q
   unfolding trusted
-  trusted-kept q = ap₂ (λ (n t : ℕ). both (ltb q n) (eqb (digit 2 t q) 1)) (g .n) (g .trust)
+  trusted-kept q = ap₂ (λ (n t : ℕ). trustedIn n t q) (g .n) (g .trust)
 
   made-kept : (b : ℕ) → b ≤ r .last .0 → made s b ≡ made r b
-  unfolding made
+  unfolding made madeIn
   made-kept b l = ap (both (ltb 0 b)) (le-leb b (s .last .0) (omega (arith, g .last)) ∙ sym (le-leb b (r .last .0) l))
 
   -- a block that has been made stays made
   pub made-grows : (b : ℕ) → made r b ≡ true → made s b ≡ true
-  unfolding made
+  unfolding made madeIn
   made-grows b h = both-make _ _ (both-left _ _ h) (le-leb b (s .last .0) (omega (arith, g .last, leb-true b (r .last .0) (both-right _ _ h))))
 
   -- a block keeps its parent
   pub parent-kept : (b : ℕ) → b ≤ r .last .0 → parentOf s b ≡ parentOf r b
-  unfolding parentOf
+  unfolding parentOf parentIn made madeOf
   parent-kept b l =
       ap₂ (λ (t : Bool) (x : Made). choose (both t (ltb (x .parent .0) b)) (x .parent .0) 0) (made-kept b l) (g .blocks b l)
 
   -- a block keeps its epoch
   pub epoch-kept : (b : ℕ) → b ≤ r .last .0 → epochOf s b ≡ epochOf r b
-  unfolding epochOf
+  unfolding epochOf epochIn made madeOf
   epoch-kept b l = ap₂ (λ (t : Bool) (x : Made). choose t (x .epoch .0) 0) (made-kept b l) (g .blocks b l)
 
   -- a block keeps its chain
@@ -94,7 +94,7 @@ module _ {r s : Register} (g : Grows r s) where
 
   -- a message keeps what it says
   pub says-kept : (q b m : ℕ) → m < r .count → says s q b m ≡ says r q b m
-  unfolding says
+  unfolding says saysIn sentOf
   says-kept q b m l = ap (λ (x : Sent). both (eqb (x .signer .0) q) (eqb (x .block .0) b)) (g .messages m l)
 
   -- a signature that is in a view stays there

@@ -17,7 +17,7 @@ use Rattle.words.proofs.Sums.{weigh-more}
 use Rattle.words.proofs.Digits.{digit-lt, digit-fill}
 use Rattle.words.proofs.Refusals.{numbered, cleared}
 use Rattle.register.specs.declared.sorts.Block.{Block}
-use Rattle.register.specs.Tables.{trusted, office, epoch, block, finalOf}
+use Rattle.register.specs.Tables.{trustedIn, trusted, office, epoch, block, finalOf}
 use Rattle.register.specs.Fitness.{between}
 use Rattle.register.specs.Opening.{untrusted, tooMany, openingTests, openingRefusal, blank, closed, fresh, opening}
 use Rattle.agreement.specs.Moments.{Run, opened}
@@ -33,7 +33,7 @@ repeated n i a = by (decLt i n)
 
 -- the offices that a fresh register trusts are those of the word that it was opened with
 trusted-fresh : (n trust : ℕ) (schedule : List ℕ) (q : ℕ) → q < n → trusted (fresh n trust schedule) q ≡ eqb (digit 2 trust q) 1
-unfolding trusted fresh blank both
+unfolding trustedIn trusted fresh blank both
 trusted-fresh n trust schedule q l =
     ap₂ (λ (t : Bool) (d : ℕ). both t (eqb d 1)) (lt-ltb q n l) (digit-fill 2 n (digit 2 trust) (λ x. digit-lt 2 trust x (omega arith)) q l)
 
@@ -52,21 +52,21 @@ safe-fresh n trust schedule most few =
     record {
       sizes =
           record {
-            parents = length-replicate 256 (block 0);
-            epochs = length-replicate 256 (epoch 0);
+            parents = length-replicate {A = ℕ} 256 0;
+            epochs = length-replicate {A = ℕ} 256 0;
             payloads = length-replicate {A = ℕ} 256 0;
             votes = length-replicate 1024 false;
-            signers = length-replicate 1024 (office 0);
-            subjects = length-replicate 1024 (block 0);
+            signers = length-replicate {A = ℕ} 1024 0;
+            subjects = length-replicate {A = ℕ} 1024 0;
             places = length-replicate {A = ℕ} 1024 0;
-            finals = length-replicate 32 (block 0);
+            finals = length-replicate {A = ℕ} 32 0;
           };
       offices = most;
       few = few-fresh n trust schedule few;
       about = λ m l. absurd (omega arith);
       vouched = λ h x t s. absurd (omega (arith, s .sent));
       ordered = λ h x y t s u. absurd (omega (arith, s .sent));
-      final = λ p t. genesis (ap (λ (b : Block). b .0) (repeated 32 p (block 0)));
+      final = λ p t. genesis (repeated 32 p 0);
     }
 
 pub safe-opened : (run : Run) → Safe (opened run)

@@ -10,8 +10,8 @@ use Rattle.words.specs.Tests.{any}
 use Rattle.words.specs.Sums.{tally}
 use Rattle.words.proofs.Tests.{both-left, both-right, both-false, any-none}
 use Rattle.register.specs.declared.table.Register.{Register}
-use Rattle.register.specs.Tables.{trusted, acted, made, parentOf, epochOf, signerOf, blockOf, finalOf}
-use Rattle.register.specs.Views.{says}
+use Rattle.register.specs.Tables.{trusted, acted, made, parentOf, epochOf, madeIn, sentOf, signerOf, blockOf, finalOf}
+use Rattle.register.specs.Views.{saysIn, says}
 use Rattle.register.specs.Chains.{chainLength, chainNotarised, longer, longest}
 use Rattle.register.proofs.Tables.{Sizes}
 use Rattle.register.proofs.Finalising.{Consecutive}
@@ -87,7 +87,7 @@ pub record Lawful (r s : Register) : Type 0 where
 
 -- a message of the history that says so is a signature
 pub signature : (r : Register) (h x m : ℕ) → m < r .count → says r h x m ≡ true → Signature r h x
-unfolding says
+unfolding says saysIn sentOf
 signature r h x m sent t =
     record {
       message = m;
@@ -98,7 +98,7 @@ signature r h x m sent t =
 
 -- a block that has been made is not above the last
 pub made-le : (r : Register) (b : ℕ) → made r b ≡ true → b ≤ r .last .0
-unfolding made
+unfolding made madeIn
 made-le r b h = leb-true b (r .last .0) (both-right _ _ h)
 
 -- a signed block has been made

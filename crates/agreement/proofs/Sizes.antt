@@ -54,7 +54,7 @@ module _ {r : Register} (z : Sizes r) where
       }
 
   -- a change of places and final blocks that keeps their sizes
-  sizes-moved-on : (e : Epoch) (a : ℕ) (ps : List ℕ) (fs : List Block) → length ps ≡ 1024 → length fs ≡ 32
+  sizes-moved-on : (e : Epoch) (a : ℕ) (ps : List ℕ) (fs : List ℕ) → length ps ≡ 1024 → length fs ≡ 32
       → Sizes
       (record {
         n = r .n;
@@ -96,7 +96,7 @@ module _ {r : Register} (z : Sizes r) where
 
   pub sizes-final : (q b : ℕ) → Sizes (withFinal r q b)
   unfolding withFinal
-  sizes-final q b = sizes-moved-on (r .epoch) (r .acted) (r .places) _ (z .places) (length-set (r .finals) q (block b) ∙ z .finals)
+  sizes-final q b = sizes-moved-on (r .epoch) (r .acted) (r .places) _ (z .places) (length-set (r .finals) q b ∙ z .finals)
 
   pub sizes-epoch : Sizes (withNextEpoch r)
   unfolding withNextEpoch

@@ -10,7 +10,7 @@ use borrow.Author.Tests.{eqb-true, eqb-false, eq-eqb, lt-ltb, ltb-false, le-leb,
 use lib.Dec.{eqb, ltb}
 use lib.ListN.{getD, length}
 use lib.Seq.{getD-set-same, getD-set-other}
-use Rattle.words.specs.Tests.{choose, both, either}
+use Rattle.words.specs.Tests.{choose, both, either, agree}
 use Rattle.words.specs.Digits.{digit}
 use Rattle.words.specs.Refusals.{Refusal, first}
 use Rattle.words.proofs.Tests.{both-right, both-false, both-make, either-false-left, either-false-right, any-at}
@@ -26,10 +26,10 @@ use Rattle.register.specs.declared.step.Step.{Step}
 use Rattle.register.specs.declared.step.Step.the-variants as steps
 use Rattle.register.specs.declared.table.Sent.{Sent}
 use Rattle.register.specs.declared.table.Register.{Register}
-use Rattle.register.specs.Tables.{trusted, acted, block, made, madeOf, parentOf, epochOf, named, sentOf, signerOf, blockOf, finalOf, sameKind}
+use Rattle.register.specs.Tables.{trusted, acted, block, made, madeOf, parentOf, epochOf, named, sentOf, signerOf, blockOf, finalOf, madeIn, isVote}
 use Rattle.register.specs.Views.{inInbox, inTransit, says}
 use Rattle.register.specs.Chains.{longest}
-use Rattle.register.specs.Refusals.{noOffice, noBlock, noMessage, notInHand, offEpoch, notLongest, notFinal, inHistory, forged, notSent, messagesFull}
+use Rattle.register.specs.Refusals.{noOffice, noBlock, noMessage, notInHand, offEpoch, notLongest, notFinal, historyIn, inHistory, forged, notSent, messagesFull}
 use Rattle.register.specs.Effects.{withBlock, withNamed, withSent, withMoved, withActed, withFinal, withNextEpoch}
 use Rattle.register.specs.Steps.{Rule, propose, vote, register, finalise, deliver, badSend, draft, advance, ruleOf, refusal, judged, stepRule}
 use Rattle.register.proofs.Tables.{Sizes, sent-new}
@@ -119,7 +119,7 @@ record Signable (r next : Register) (q b : ℕ) : Type 0 where
 -- an office signs a block: what propose and vote share
 lawful-signed : (r next : Register) (q : Office) (kind : Kind) (b : ℕ) → Signable r next (q .0) b
     → Lawful r (withActed (withSent next (q .0) (record { kind = kind; signer = q; block = block b })) (q .0))
-unfolding acted withActed withSent made epochOf parentOf madeOf finalOf sentOf
+unfolding acted withActed withSent made epochOf parentOf finalOf sentOf
 lawful-signed r next q kind b p =
     let new : Sent = record { kind = kind; signer = q; block = block b } in
     let sent : Register = withSent next (q .0) new in
@@ -143,7 +143,7 @@ lawful-signed r next q kind b p =
           (λ h a. acted-kept sent (q .0) h ready (ap (λ (w : ℕ). eqb (digit 2 w h) 1) (p .marks) ∙ a));
       one = omega (arith, p .count);
       news = one-new r end new (ap (λ (k : ℕ). k + 1) (p .count)) is (record { about = p .made; signed = λ t. inr signing });
-      finals = λ x t. inl (ap (λ (f : List Block). getD f x (block 0) .0) (p .finals));
+      finals = λ x t. inl (ap (λ (f : List ℕ). getD f x 0) (p .finals));
     }
 
 lawful-propose : (r : Register) (office : Office) (parent : Block) (w : ℕ) → Safe r → first (propose r office parent w .tests) ≡ 0
@@ -180,7 +180,7 @@ from-inbox r q m h = placed r q m 1 (eqb-true _ 2 (not-false _ h))
 
 lawful-vote : (r : Register) (office : Office) (message : Message) → Safe r → first (vote r office message .tests) ≡ 0
     → Lawful r (vote r office message .effect)
-unfolding vote numbered choose noMessage offEpoch notLongest messagesFull withMoved made epochOf parentOf madeOf
+unfolding vote numbered choose noMessage offEpoch notLongest messagesFull withMoved made epochOf parentOf
 lawful-vote r office message safe h =
     let q : ℕ = office .0 in
     let m : ℕ = message .0 in
@@ -243,9 +243,9 @@ finals-after r q c p room three = by (ℕ-discrete p q)
 
     by : Dec (p ≡ q) → (finalOf end p ≡ finalOf r p) ⊎ Finalised end p (finalOf end p)
     by (yes e) =
-        let is : finalOf end q ≡ c = ap (λ (b : Block). b .0) (getD-set-same (r .finals) q (block c) (block 0) room) in
+        let is : finalOf end q ≡ c = getD-set-same (r .finals) q c 0 room in
         inr (subst⁻¹ (λ (x : ℕ). Finalised end x (finalOf end x)) e (subst⁻¹ (Finalised end q) is three))
-    by (no d) = inl (ap (λ (b : Block). b .0) (getD-set-other (r .finals) q p (block c) (block 0) d))
+    by (no d) = inl (getD-set-other (r .finals) q p c 0 d)
 
 lawful-finalise : (r : Register) (office : Office) (newest : Block) → Safe r → first (finalise r office newest .tests) ≡ 0
     → Lawful r (finalise r office newest .effect)
@@ -271,14 +271,14 @@ lawful-finalise r office newest safe h =
 
 -- a message of the history is a signature
 in-history : (r : Register) (kind : Kind) (h b : ℕ) → inHistory r kind h b ≡ true → Signature r h b
-unfolding inHistory
+unfolding inHistory historyIn says
 in-history r kind h b t =
-    let f : (m : ℕ) × (m < r .count) × (both (sameKind (sentOf r m .kind) kind) (says r h b m) ≡ true) = any-at _ (r .count) t in
+    let f : (m : ℕ) × (m < r .count) × (both (agree (getD (r .votes) m false) (isVote kind)) (says r h b m) ≡ true) = any-at _ (r .count) t in
     signature r h b (f .0) (f .1) (both-right _ _ (f .2))
 
 lawful-bad-send : (r : Register) (sender : Office) (kind : Kind) (signer : Office) (about : Block) → Safe r
     → first (badSend r sender kind signer about .tests) ≡ 0 → Lawful r (badSend r sender kind signer about .effect)
-unfolding badSend numbered choose noBlock forged messagesFull withSent acted finalOf made sentOf
+unfolding badSend numbered choose noBlock forged messagesFull withSent acted finalOf made madeIn sentOf
 lawful-bad-send r sender kind signer about safe h =
     let b : ℕ = about .0 in
     let tests : List Refusal = badSend r sender kind signer about .tests in

@@ -8,13 +8,13 @@ use native.Mathlib.Omega.{arith}
 use native.Mathlib.Decide.{ℕ-discrete}
 use borrow.Author.Tests.{eq-eqb, eqb-true, ltb-true}
 use lib.Dec.{eqb, ltb}
-use lib.ListN.{length}
+use lib.ListN.{getD, length}
 use Rattle.words.specs.Tests.{choose, both, every, member}
 use Rattle.words.proofs.Tests.{both-left, both-right, both-make, either-cases, either-left, either-right, clash, every-at}
 use Rattle.register.specs.declared.table.Register.{Register}
-use Rattle.register.specs.Tables.{made, madeOf, parentOf, epochOf}
+use Rattle.register.specs.Tables.{madeIn, parentIn, parentOf, epochOf}
 use Rattle.register.specs.Views.{notarised}
-use Rattle.register.specs.Chains.{climb, chain, chainLength, valid, chainNotarised}
+use Rattle.register.specs.Chains.{climb, chainBy, chain, chainLength, valid, chainNotarised}
 
 -- a number that is kept only where a test says that it is below b, else 0, is below b
 kept-lt : (t : Bool) (x b : ℕ) → 0 < b → (t ≡ true → x < b) → choose t x 0 < b
@@ -23,15 +23,22 @@ kept-lt true x b h k = k refl
 kept-lt false x b h k = h
 
 -- a parent's number is smaller
-pub parent-lt : (r : Register) (b : ℕ) → 0 < b → parentOf r b < b
+abbrev pub Down : (ℕ → ℕ) → Type 0
+Down parent = (b : ℕ) → 0 < b → parent b < b
+
+pub parent-in-lt : (parents : List ℕ) (last : ℕ) → Down (parentIn parents last)
+unfolding parentIn
+parent-in-lt parents last b h =
+    let p : ℕ = getD parents b 0 in
+    kept-lt (both (madeIn last b) (ltb p b)) p b h (λ t. ltb-true p b (both-right (madeIn last b) (ltb p b) t))
+
+pub parent-lt : (r : Register) → Down (parentOf r)
 unfolding parentOf
-parent-lt r b h =
-    let p : ℕ = madeOf r b .parent .0 in
-    kept-lt (both (made r b) (ltb p b)) p b h (λ t. ltb-true p b (both-right (made r b) (ltb p b) t))
+parent-lt r = parent-in-lt (r .parents) (r .last .0)
 
 -- genesis has no parent
 parent-genesis : (r : Register) → parentOf r 0 ≡ 0
-unfolding parentOf made both choose
+unfolding parentOf parentIn madeIn both choose
 parent-genesis r = refl
 
 -- a parent's number is no greater, also that of genesis
@@ -39,41 +46,53 @@ pub parent-le : (r : Register) (b : ℕ) → parentOf r b ≤ b
 parent-le r zero = omega (arith, parent-genesis r)
 parent-le r (suc b) = omega (arith, parent-lt r (suc b) (omega arith))
 
--- a climb that may go on for at least b blocks from block b reaches genesis
-climb-same : (r : Register) (j k b : ℕ) → b ≤ j → b ≤ k → climb r j b ≡ climb r k b
-unfolding climb
-climb-same r zero zero b hj hk = refl
-climb-same r zero (suc k) zero hj hk = refl
-climb-same r zero (suc k) (suc b) hj hk = absurd (omega arith)
-climb-same r (suc j) zero zero hj hk = refl
-climb-same r (suc j) zero (suc b) hj hk = absurd (omega arith)
-climb-same r (suc j) (suc k) zero hj hk = refl
-climb-same r (suc j) (suc k) (suc b) hj hk =
-    let l : parentOf r (suc b) < suc b = parent-lt r (suc b) (omega arith) in
-    ap (λ (c : List ℕ). suc b ∷ c) (climb-same r j k (parentOf r (suc b)) (omega arith) (omega arith))
+module _ (parent : ℕ → ℕ) (down : Down parent) where
+  -- a climb that may go on for at least b blocks from block b reaches genesis
+  climb-same : (j k b : ℕ) → b ≤ j → b ≤ k → climb parent j b ≡ climb parent k b
+  unfolding climb
+  climb-same zero zero b hj hk = refl
+  climb-same zero (suc k) zero hj hk = refl
+  climb-same zero (suc k) (suc b) hj hk = absurd (omega arith)
+  climb-same (suc j) zero zero hj hk = refl
+  climb-same (suc j) zero (suc b) hj hk = absurd (omega arith)
+  climb-same (suc j) (suc k) zero hj hk = refl
+  climb-same (suc j) (suc k) (suc b) hj hk =
+      let l : parent (suc b) < suc b = down (suc b) (omega arith) in
+      ap (λ (c : List ℕ). suc b ∷ c) (climb-same j k (parent (suc b)) (omega arith) (omega arith))
+
+  -- the chain of any block but genesis is the block on its parent's chain
+  pub chain-by-step : (b : ℕ) → 0 < b → chainBy parent b ≡ b ∷ chainBy parent (parent b)
+  unfolding chainBy climb
+  chain-by-step zero h = absurd (omega arith)
+  chain-by-step (suc b) h =
+      let l : parent (suc b) < suc b = down (suc b) (omega arith) in
+      ap (λ (c : List ℕ). suc b ∷ c) (climb-same b (parent (suc b)) (parent (suc b)) (omega arith) (omega arith))
+
+  -- a rule on chains by induction: from genesis, and from each parent to its block
+  pub climb-induction : (P : ℕ → Type 0) → P 0 → ((b : ℕ) → 0 < b → P (parent b) → P b) → (b : ℕ) → P b
+  climb-induction P base step b = go b b (omega arith)
+    where
+      go : (k b : ℕ) → b ≤ k → P b
+      go zero zero h = base
+      go zero (suc b) h = absurd (omega arith)
+      go (suc k) zero h = base
+      go (suc k) (suc b) h = step (suc b) (omega arith) (go k (parent (suc b)) (omega (arith, down (suc b) (omega arith))))
 
 -- the chain of genesis has no block besides it
+pub chain-by-genesis : (parent : ℕ → ℕ) → chainBy parent 0 ≡ []
+unfolding chainBy climb
+chain-by-genesis parent = refl
+
 pub chain-genesis : (r : Register) → chain r 0 ≡ []
-unfolding chain climb
-chain-genesis r = refl
+unfolding chain
+chain-genesis r = chain-by-genesis (parentOf r)
 
--- the chain of any other block is the block on its parent's chain
 pub chain-step : (r : Register) (b : ℕ) → 0 < b → chain r b ≡ b ∷ chain r (parentOf r b)
-unfolding chain climb
-chain-step r zero h = absurd (omega arith)
-chain-step r (suc b) h =
-    let l : parentOf r (suc b) < suc b = parent-lt r (suc b) (omega arith) in
-    ap (λ (c : List ℕ). suc b ∷ c) (climb-same r b (parentOf r (suc b)) (parentOf r (suc b)) (omega arith) (omega arith))
+unfolding chain
+chain-step r b h = chain-by-step (parentOf r) (parent-lt r) b h
 
--- a rule on chains by induction: from genesis, and from each parent to its block
-pub chain-induction : (r : Register) (P : ℕ → Type 0) → P 0 → ((b : ℕ) → 0 < b → P (parentOf r b) → P b) → (b : ℕ) → P b
-chain-induction r P base step b = go b b (omega arith)
-  where
-    go : (k b : ℕ) → b ≤ k → P b
-    go zero zero h = base
-    go zero (suc b) h = absurd (omega arith)
-    go (suc k) zero h = base
-    go (suc k) (suc b) h = step (suc b) (omega arith) (go k (parentOf r (suc b)) (omega (arith, parent-lt r (suc b) (omega arith))))
+chain-induction : (r : Register) (P : ℕ → Type 0) → P 0 → ((b : ℕ) → 0 < b → P (parentOf r b) → P b) → (b : ℕ) → P b
+chain-induction r = climb-induction (parentOf r) (parent-lt r)
 
 -- the length of the chain of genesis is 0
 pub length-genesis : (r : Register) → chainLength r 0 ≡ 0

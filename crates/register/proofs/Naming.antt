@@ -6,11 +6,12 @@ use mathlib.Core.Logic.{_⊎_, inl, inr}
 use native.Mathlib.Omega.{arith}
 use borrow.Author.Tests.{eqb-true, le-leb, leb-true, leb-false, lt-ltb}
 use lib.Dec.{eqb, ltb, leb}
+use lib.ListN.{getD}
 use Rattle.words.specs.Tests.{choose, both, lowest}
 use Rattle.words.proofs.Tests.{both-left, both-right, both-make, both-false, Lowest, lowest-is}
 use Rattle.register.specs.declared.table.Made.{Made}
 use Rattle.register.specs.declared.table.Register.{Register}
-use Rattle.register.specs.Tables.{entry, made, madeOf, madeAs, parentOf, epochOf, named}
+use Rattle.register.specs.Tables.{entry, madeIn, made, madeOf, namedIn, alike, parentIn, epochIn, parentOf, epochOf, named}
 use Rattle.register.specs.Refusals.{blocksFull}
 use Rattle.register.specs.Effects.{withBlock, withNamed}
 use Rattle.register.proofs.Tables.{Sizes, made-new}
@@ -34,13 +35,13 @@ module _ (r : Register) (p e w : ℕ) where
 
   -- the number named has been made already with that parent and epoch, or it is the next
   named-is : ((named r p e w ≤ r .last .0) × MadeOf r p e (named r p e w)) ⊎ (named r p e w ≡ r .last .0 + 1)
-  unfolding named made madeAs
-  named-is = by (lowest-is (r .last .0) (λ k. madeAs r p e w (k + 1)))
+  unfolding named namedIn alike made madeIn parentOf epochOf
+  named-is = by (lowest-is (r .last .0) (λ k. alike (parentOf r (k + 1)) (epochOf r (k + 1)) (getD (r .payloads) (k + 1) 0) p e w))
     where
       l : ℕ
-      l = lowest (r .last .0) (λ k. madeAs r p e w (k + 1))
+      l = lowest (r .last .0) (λ k. alike (parentOf r (k + 1)) (epochOf r (k + 1)) (getD (r .payloads) (k + 1) 0) p e w)
 
-      by : Lowest (r .last .0) (λ k. madeAs r p e w (k + 1)) l
+      by : Lowest (r .last .0) (λ k. alike (parentOf r (k + 1)) (epochOf r (k + 1)) (getD (r .payloads) (k + 1) 0) p e w) l
           → ((l + 1 ≤ r .last .0) × MadeOf r p e (l + 1)) ⊎ (l + 1 ≡ r .last .0 + 1)
       by (inl h) =
           inl (
@@ -55,7 +56,7 @@ module _ (r : Register) (p e w : ℕ) where
 
   -- a block that is made has what it was made with
   made-as-asked : Sizes r → p ≤ r .last .0 → r .last .0 < 255 → MadeOf (withBlock r (entry p e w)) p e (r .last .0 + 1)
-  unfolding made parentOf epochOf withBlock choose both
+  unfolding made madeIn parentOf parentIn epochOf epochIn madeOf withBlock choose both
   made-as-asked sizes low room =
       let b : ℕ = r .last .0 + 1 in
       let found : madeOf (withBlock r (entry p e w)) b ≡ entry p e w = made-new r sizes (entry p e w) room in

@@ -1,18 +1,17 @@
 -- What an opening's tests say, and how the table of leaders is filled.
 use Prim.Native.Nat.{ℕ, suc, _+_, _-_, _≤_, _<_}
 use mathlib.Core.Path.{_≡_, ap, _∙_}
-use mathlib.Core.List.{List, [], _∷_, _++_, map, map-append}
+use mathlib.Core.List.{List, [], _∷_, _++_}
 use native.Mathlib.Numerals.{add-one}
 use native.Mathlib.Omega.{arith}
 use borrow.Author.Tests.{not-false}
 use lib.Dec.{eqb}
-use lib.ListN.{length, take, set, getD, replicate, length-map}
+use lib.ListN.{length, take, set, getD, replicate}
 use lib.Seq.{take-suc, length-take-le, append-snoc, set-at}
 use Rattle.words.specs.Tests.{choose}
 use Rattle.words.specs.Digits.{digit}
 use Rattle.words.proofs.Refusals.{numbered, cleared}
 use Rattle.words.proofs.Sums.{tally-not}
-use Rattle.register.specs.Tables.{office}
 use Rattle.register.specs.Opening.{untrusted, openingRefusal, leaderTable}
 use Rattle.register.proofs.FitnessLaws.{between-true}
 
@@ -27,25 +26,17 @@ unfolding openingRefusal numbered choose
 accepted-schedule n trust schedule h = between-true 1 256 (length schedule) (not-false _ (cleared 1 _ h)) .1
 
 -- a table with room for one entry more
-room : (k : ℕ) → k < 256 → replicate (256 - k) (office 0) ≡ office 0 ∷ replicate (256 - suc k) (office 0)
+room : (k : ℕ) → k < 256 → replicate {A = ℕ} (256 - k) 0 ≡ 0 ∷ replicate (256 - suc k) 0
 room k h =
     let e : 256 - k ≡ suc (256 - suc k) = omega arith in
-    ap (λ (x : ℕ). replicate x (office 0)) e
+    ap (λ (x : ℕ). replicate {A = ℕ} x 0) e
 
 -- a loop's next turn: the first k leaders are in the table, and the next is put in
 pub next-leader : (schedule : List ℕ) (k : ℕ) → k < length schedule → length schedule ≤ 256
-    → set (leaderTable (take k schedule)) k (office (getD schedule k 0)) ≡ leaderTable (take (k + 1) schedule)
+    → set (leaderTable (take k schedule)) k (getD schedule k 0) ≡ leaderTable (take (k + 1) schedule)
 unfolding leaderTable
 next-leader schedule k h most =
     let before : length (take k schedule) ≡ k = length-take-le k schedule (omega arith) in
     let after : length (take (k + 1) schedule) ≡ suc k = length-take-le (k + 1) schedule (omega arith) ∙ add-one k in
     let more : take (k + 1) schedule ≡ take k schedule ++ (getD schedule k 0 ∷ []) = rw add-one (take-suc schedule k 0 h) in
-    rw (
-      before,
-      room k (omega arith),
-      set-at (map office (take k schedule)) _ _ _ k (length-map (take k schedule) office ∙ before),
-      after,
-      more,
-      map-append,
-      append-snoc,
-    )
+    rw (before, room k (omega arith), set-at (take k schedule) _ _ _ k before, after, more, append-snoc)

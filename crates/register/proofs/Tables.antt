@@ -42,8 +42,8 @@ module _ (r : Register) (sizes : Sizes r) where
   unfolding madeOf withBlock
   made-new new room =
       let b : ℕ = r .last .0 + 1 in
-      made-path (getD-set-same (r .parents) b (new .parent) (block 0) (omega (arith, sizes .parents)))
-      (getD-set-same (r .epochs) b (new .epoch) (epoch 0) (omega (arith, sizes .epochs)))
+      made-path (ap block (getD-set-same (r .parents) b (new .parent .0) 0 (omega (arith, sizes .parents))))
+      (ap epoch (getD-set-same (r .epochs) b (new .epoch .0) 0 (omega (arith, sizes .epochs))))
       (getD-set-same (r .payloads) b (new .payload) 0 (omega (arith, sizes .payloads)))
 
   -- the new message
@@ -53,21 +53,21 @@ module _ (r : Register) (sizes : Sizes r) where
       let m : ℕ = r .count in
       sent-path
       (ap kindOf (getD-set-same (r .votes) m (isVote (new .kind)) false (omega (arith, sizes .votes))) ∙ kind-is (new .kind))
-      (getD-set-same (r .signers) m (new .signer) (office 0) (omega (arith, sizes .signers)))
-      (getD-set-same (r .subjects) m (new .block) (block 0) (omega (arith, sizes .subjects)))
+      (ap office (getD-set-same (r .signers) m (new .signer .0) 0 (omega (arith, sizes .signers))))
+      (ap block (getD-set-same (r .subjects) m (new .block .0) 0 (omega (arith, sizes .subjects))))
 
 -- the other blocks
 pub made-other : (r : Register) (new : Made) (b : ℕ) → (b ≡ r .last .0 + 1 → ⊥) → madeOf (withBlock r new) b ≡ madeOf r b
 unfolding madeOf withBlock
 made-other r new b d =
     let last : ℕ = r .last .0 + 1 in
-    made-path (getD-set-other (r .parents) last b (new .parent) (block 0) d) (getD-set-other (r .epochs) last b (new .epoch) (epoch 0) d)
-    (getD-set-other (r .payloads) last b (new .payload) 0 d)
+    made-path (ap block (getD-set-other (r .parents) last b (new .parent .0) 0 d))
+    (ap epoch (getD-set-other (r .epochs) last b (new .epoch .0) 0 d)) (getD-set-other (r .payloads) last b (new .payload) 0 d)
 
 -- the other messages
 pub sent-other : (r : Register) (actor : ℕ) (new : Sent) (m : ℕ) → (m ≡ r .count → ⊥) → sentOf (withSent r actor new) m ≡ sentOf r m
 unfolding sentOf withSent
 sent-other r actor new m d =
     sent-path (ap kindOf (getD-set-other (r .votes) (r .count) m (isVote (new .kind)) false d))
-    (getD-set-other (r .signers) (r .count) m (new .signer) (office 0) d)
-    (getD-set-other (r .subjects) (r .count) m (new .block) (block 0) d)
+    (ap office (getD-set-other (r .signers) (r .count) m (new .signer .0) 0 d))
+    (ap block (getD-set-other (r .subjects) (r .count) m (new .block .0) 0 d))

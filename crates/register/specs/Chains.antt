@@ -10,14 +10,17 @@ use Rattle.register.specs.Tables.{parentOf, epochOf}
 use Rattle.register.specs.Views.{notarised}
 
 -- at most so many blocks on the way from block b to genesis, from parent to parent
-unfoldable pub climb : Register → (most : ℕ) → (b : ℕ) → List ℕ
-climb r zero b = []
-climb r (suc k) zero = []
-climb r (suc k) (suc b) = suc b ∷ climb r k (parentOf r (suc b))
+unfoldable pub climb : (parent : ℕ → ℕ) → (most : ℕ) → (b : ℕ) → List ℕ
+climb parent zero b = []
+climb parent (suc k) zero = []
+climb parent (suc k) (suc b) = suc b ∷ climb parent k (parent (suc b))
 
 -- the chain of block b. A parent's number is smaller, so b blocks reach genesis.
+unfoldable pub chainBy : (parent : ℕ → ℕ) → ℕ → List ℕ
+chainBy parent b = climb parent b b
+
 unfoldable pub chain : Register → ℕ → List ℕ
-chain r b = climb r b b
+chain r b = chainBy (parentOf r) b
 
 -- the length of block b's chain, genesis not counted
 unfoldable pub chainLength : Register → ℕ → ℕ

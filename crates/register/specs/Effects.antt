@@ -20,8 +20,8 @@ withBlock r new =
       leaders = r .leaders;
       epoch = r .epoch;
       last = block (r .last .0 + 1);
-      parents = set (r .parents) (r .last .0 + 1) (new .parent);
-      epochs = set (r .epochs) (r .last .0 + 1) (new .epoch);
+      parents = set (r .parents) (r .last .0 + 1) (new .parent .0);
+      epochs = set (r .epochs) (r .last .0 + 1) (new .epoch .0);
       payloads = set (r .payloads) (r .last .0 + 1) (new .payload);
       count = r .count;
       votes = r .votes;
@@ -56,8 +56,8 @@ withSent r actor message =
       payloads = r .payloads;
       count = r .count + 1;
       votes = set (r .votes) (r .count) (isVote (message .kind));
-      signers = set (r .signers) (r .count) (message .signer);
-      subjects = set (r .subjects) (r .count) (message .block);
+      signers = set (r .signers) (r .count) (message .signer .0);
+      subjects = set (r .subjects) (r .count) (message .block .0);
       places = set (r .places) (r .count) (fill 4 (r .n) (sentStage r actor));
       acted = r .acted;
       finals = r .finals;
@@ -126,7 +126,7 @@ withFinal r q b =
       subjects = r .subjects;
       places = r .places;
       acted = r .acted;
-      finals = set (r .finals) q (block b);
+      finals = set (r .finals) q b;
     }
 
 -- the next epoch, in which every office is ready

@@ -6,7 +6,7 @@ use lib.Dec.{ltb, leb}
 use lib.ListN.{getD}
 use Rattle.words.specs.Tests.{both, either, conj, all}
 use Rattle.register.specs.declared.table.Register.{Register}
-use Rattle.register.specs.Tables.{trusted, office, madeOf, signerOf, blockOf, finalOf}
+use Rattle.register.specs.Tables.{trusted, signerOf, blockOf, finalOf}
 
 -- low ≤ k ≤ high
 unfoldable pub between : ℕ → ℕ → ℕ → Bool
@@ -18,7 +18,7 @@ countsFit r = conj (between 1 32 (r .n) ∷ between 1 256 (r .length) ∷ betwee
 
 -- every leader of the schedule is an office
 unfoldable pub leadersFit : Register → Bool
-leadersFit r = all (r .length) (λ i. ltb (getD (r .leaders) i (office 0) .0) (r .n))
+leadersFit r = all (r .length) (λ i. ltb (getD (r .leaders) i 0) (r .n))
 
 -- a block has a smaller parent, and an epoch up to 511
 unfoldable pub blockFits : (b parent epoch : ℕ) → Bool
@@ -26,7 +26,7 @@ blockFits b parent epoch = both (ltb parent b) (leb epoch 511)
 
 -- so has every block made
 unfoldable pub blocksFit : Register → Bool
-blocksFit r = all (r .last .0) (λ k. blockFits (k + 1) (madeOf r (k + 1) .parent .0) (madeOf r (k + 1) .epoch .0))
+blocksFit r = all (r .last .0) (λ k. blockFits (k + 1) (getD (r .parents) (k + 1) 0) (getD (r .epochs) (k + 1) 0))
 
 -- a message has an office for its signer, and a block from 1 up to the last
 unfoldable pub messageFits : (n last : ℕ) → (signer subject : ℕ) → Bool

@@ -1,17 +1,16 @@
 -- Opening a register.
 use Prim.Native.Nat.{ℕ, _*_, _-_}
 use mathlib.Core.Bool.{Bool, false, not}
-use mathlib.Core.List.{List, [], _∷_, _++_, map}
+use mathlib.Core.List.{List, [], _∷_, _++_}
 use lib.Dec.{eqb, leb}
 use lib.ListN.{length, getD, replicate}
 use Rattle.words.specs.Tests.{choose, any}
 use Rattle.words.specs.Sums.{tally}
 use Rattle.words.specs.Digits.{digit, fill}
 use Rattle.words.specs.Refusals.{Refusal, _⇒_, first}
-use Rattle.register.specs.declared.sorts.Office.{Office}
 use Rattle.register.specs.declared.table.Register.{Register}
 use Rattle.register.specs.declared.table.Opened.{Opened}
-use Rattle.register.specs.Tables.{office, epoch, block}
+use Rattle.register.specs.Tables.{epoch, block}
 use Rattle.register.specs.Fitness.{between}
 
 -- how many of the n offices have the trust bit 0
@@ -39,11 +38,11 @@ unfoldable pub openingRefusal : (n trust : ℕ) → (schedule : List ℕ) → �
 openingRefusal n trust schedule = first (openingTests n trust schedule)
 
 -- the table of leaders: the schedule, and office 0 from its end up to entry 255
-unfoldable pub leaderTable : List ℕ → List Office
-leaderTable schedule = map office schedule ++ replicate (256 - length schedule) (office 0)
+unfoldable pub leaderTable : List ℕ → List ℕ
+leaderTable schedule = schedule ++ replicate (256 - length schedule) 0
 
 -- a register of epoch e with no blocks but genesis and no messages, in which all are ready and all final blocks are 0
-unfoldable pub blank : (n trust length e : ℕ) → List Office → Register
+unfoldable pub blank : (n trust length e : ℕ) → (leaders : List ℕ) → Register
 blank n trust length e leaders =
     record {
       n = n;
@@ -52,21 +51,21 @@ blank n trust length e leaders =
       leaders = leaders;
       epoch = epoch e;
       last = block 0;
-      parents = replicate 256 (block 0);
-      epochs = replicate 256 (epoch 0);
+      parents = replicate 256 0;
+      epochs = replicate 256 0;
       payloads = replicate 256 0;
       count = 0;
       votes = replicate 1024 false;
-      signers = replicate 1024 (office 0);
-      subjects = replicate 1024 (block 0);
+      signers = replicate 1024 0;
+      subjects = replicate 1024 0;
       places = replicate 1024 0;
       acted = 0;
-      finals = replicate 32 (block 0);
+      finals = replicate 32 0;
     }
 
 -- the register of a refused opening: n = 0, and every other field 0, empty or ready
 unfoldable pub closed : Register
-closed = blank 0 0 0 0 (replicate 256 (office 0))
+closed = blank 0 0 0 0 (replicate 256 0)
 
 -- the fresh register. Bits of the trust word from n up are stored as 0.
 unfoldable pub fresh : (n trust : ℕ) → (schedule : List ℕ) → Register

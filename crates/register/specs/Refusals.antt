@@ -1,13 +1,14 @@
 -- The tests behind a step's refusals, by the words of their numbers. Each is made on the register as it was handed in.
 use Prim.Native.Nat.{ℕ, _+_}
-use mathlib.Core.Bool.{Bool, not}
-use mathlib.Core.List.{[], _∷_}
+use mathlib.Core.Bool.{Bool, false, not}
+use mathlib.Core.List.{List, [], _∷_}
 use lib.Dec.{eqb, ltb, leb}
-use Rattle.words.specs.Tests.{both, either, any, conj}
+use lib.ListN.{getD}
+use Rattle.words.specs.Tests.{both, either, agree, any, conj}
 use Rattle.register.specs.declared.sorts.Kind.{Kind}
 use Rattle.register.specs.declared.table.Register.{Register}
-use Rattle.register.specs.Tables.{trusted, leaderOf, parentOf, epochOf, named, sentOf, signerOf, blockOf, isVote, sameKind}
-use Rattle.register.specs.Views.{inTransit, inInbox, signed, says}
+use Rattle.register.specs.Tables.{trusted, leaderOf, parentOf, epochOf, named, signerOf, blockOf, isVote}
+use Rattle.register.specs.Views.{inTransit, inInbox, signed, saysIn}
 use Rattle.register.specs.Chains.{chainNotarised, longest}
 
 -- 6: the number is not below n
@@ -40,7 +41,7 @@ notInHand r q m = not (inInbox r q m)
 
 -- 16 where it holds in a vote, and where it fails in a register: the message is a vote and no proposal
 unfoldable pub votes : Register → ℕ → Bool
-votes r m = isVote (sentOf r m .kind)
+votes r m = getD (r .votes) m false
 
 -- 17: the message's signer is not the leader, or its block's epoch is not the current one
 unfoldable pub offEpoch : Register → ℕ → Bool
@@ -76,8 +77,12 @@ unfoldable pub notFinal : Register → ℕ → ℕ → Bool
 notFinal r q b = not (finalises r q b)
 
 -- a message of that kind, signer and block has been sent
+unfoldable pub historyIn : (votes : List Bool) → (signers subjects : List ℕ) → (count : ℕ) → (vote : Bool) → (signer b : ℕ) → Bool
+historyIn votes signers subjects count vote signer b =
+    any count (λ m. both (agree (getD votes m false) vote) (saysIn signers subjects signer b m))
+
 unfoldable pub inHistory : Register → Kind → ℕ → ℕ → Bool
-inHistory r kind signer b = any (r .count) (λ m. both (sameKind (sentOf r m .kind) kind) (says r signer b m))
+inHistory r kind signer b = historyIn (r .votes) (r .signers) (r .subjects) (r .count) (isVote kind) signer b
 
 -- 22: the signer is trusted, and this kind, signer and block are not in the history
 unfoldable pub forged : Register → Kind → ℕ → ℕ → Bool

@@ -17,7 +17,7 @@ use Rattle.register.specs.declared.step.Step.the-variants as steps
 use Rattle.register.specs.declared.table.Register.{Register}
 use Rattle.register.specs.declared.table.Stepped.{Stepped}
 use Rattle.register.specs.Tables.{trusted, acted, office, block, parentOf, epochOf, named, blockOf}
-use Rattle.register.specs.Fitness.{fit}
+use Rattle.register.specs.Fitness.{countsFit, fit}
 use Rattle.register.specs.Refusals.{
   noOffice,
   noBlock,
@@ -195,3 +195,7 @@ judged fits r rule =
 -- what a step gives
 unfoldable pub stepRule : Register → Step → Stepped
 stepRule r step = judged (fit r) r (ruleOf r step)
+
+-- the same where only the single numbers of the register are tested and not its tables: for whoever runs a list from an opening
+unfoldable pub quickRule : Register → Step → Stepped
+quickRule r step = judged (countsFit r) r (ruleOf r step)

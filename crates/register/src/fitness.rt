@@ -7,7 +7,7 @@ ghost use lib.Dec.{eqb, ltb, leb};
 ghost use lib.ListN.{getD};
 ghost use Rattle.words.specs.Tests.{both, either, conj, all};
 ghost use Rattle.words.specs.Digits.{digit};
-ghost use Rattle.register.specs.Tables.{office, epoch, block};
+ghost use Rattle.register.specs.Tables.{trustedIn};
 ghost use Rattle.register.specs.Fitness.{between, blockFits, messageFits, fit};
 use crate::sorts::Block;
 use crate::sorts::Epoch;
@@ -32,29 +32,29 @@ fn counts_fit(n: u8, length: u16, epoch: Epoch, count: u16) -> bool
 }
 
 // Every leader of the schedule is an office.
-fn leaders_fit(leaders: [Office; 256], length: usize, n: u8) -> bool
+fn leaders_fit(leaders: &[u8; 256], length: usize, n: u8) -> bool
     requires { ⌜ length ≤ 256 ⌝ }
-    ensures { λ r. ⌜ r ≡ all length (λ i. ltb (getD leaders i (office 0) .0) n) ⌝ }
+    ensures { λ r. ⌜ r ≡ all length (λ i. ltb (getD (now (leaders .entry)) i 0) n) ⌝ }
 {
     let mut fits = true;
     let mut i = 0;
     while i < length {
-        fits = fits & (leaders[i].0 < n);
+        fits = fits & (leaders[i] < n);
         i += 1;
     }
     fits
 }
 
 // A block has a smaller parent, and an epoch up to 511.
-fn block_fits(b: u8, parent: Block, epoch: Epoch) -> bool
-    ensures { λ r. ⌜ r ≡ blockFits b (parent .0) (epoch .0) ⌝ }
+fn block_fits(b: u8, parent: u8, epoch: u16) -> bool
+    ensures { λ r. ⌜ r ≡ blockFits b parent epoch ⌝ }
 {
-    (parent.0 < b) & (epoch.0 <= 511)
+    (parent < b) & (epoch <= 511)
 }
 
 // Every block from 1 to the last fits.
-fn blocks_fit(parents: [Block; 256], epochs: [Epoch; 256], last: u8) -> bool
-    ensures { λ r. ⌜ r ≡ all last (λ k. blockFits (k + 1) (getD parents (k + 1) (block 0) .0) (getD epochs (k + 1) (epoch 0) .0)) ⌝ }
+fn blocks_fit<'a>(parents: &'a [u8; 256], epochs: &'a [u16; 256], last: u8) -> bool
+    ensures { λ r. ⌜ r ≡ all last (λ k. blockFits (k + 1) (getD (now (parents .entry)) (k + 1) 0) (getD (now (epochs .entry)) (k + 1) 0)) ⌝ }
 {
     let mut fits = true;
     let mut k = 0;
@@ -68,22 +68,22 @@ fn blocks_fit(parents: [Block; 256], epochs: [Epoch; 256], last: u8) -> bool
 }
 
 // A message has an office for its signer and a block that has been made, genesis excepted.
-fn message_fits(n: u8, last: u8, signer: Office, subject: Block) -> bool
-    ensures { λ r. ⌜ r ≡ messageFits n last (signer .0) (subject .0) ⌝ }
+fn message_fits(n: u8, last: u8, signer: u8, subject: u8) -> bool
+    ensures { λ r. ⌜ r ≡ messageFits n last signer subject ⌝ }
 {
-    (signer.0 < n) & ((1 <= subject.0) & (subject.0 <= last))
+    (signer < n) & ((1 <= subject) & (subject <= last))
 }
 
 // Every message sent fits.
-fn messages_fit(
-    signers: [Office; 1024],
-    subjects: [Block; 1024],
+fn messages_fit<'a>(
+    signers: &'a [u8; 1024],
+    subjects: &'a [u8; 1024],
     count: usize,
     n: u8,
     last: u8,
 ) -> bool
     requires { ⌜ count ≤ 1024 ⌝ }
-    ensures { λ r. ⌜ r ≡ all count (λ m. messageFits n last (getD signers m (office 0) .0) (getD subjects m (block 0) .0)) ⌝ }
+    ensures { λ r. ⌜ r ≡ all count (λ m. messageFits n last (getD (now (signers .entry)) m 0) (getD (now (subjects .entry)) m 0)) ⌝ }
 {
     let mut fits = true;
     let mut m = 0;
@@ -95,14 +95,14 @@ fn messages_fit(
 }
 
 // Every trusted office's final block is genesis or has been made.
-fn finals_fit(finals: [Block; 32], n: u8, trust: u32, last: u8) -> bool
+fn finals_fit(finals: &[u8; 32], n: u8, trust: u32, last: u8) -> bool
     requires { ⌜ n ≤ 32 ⌝ }
-    ensures { λ r. ⌜ r ≡ all n (λ q. either (not (both (ltb q n) (eqb (digit 2 trust q) 1))) (leb (getD finals q (block 0) .0) last)) ⌝ }
+    ensures { λ r. ⌜ r ≡ all n (λ q. either (not (trustedIn n trust q)) (leb (getD (now (finals .entry)) q 0) last)) ⌝ }
 {
     let mut fits = true;
     let mut q = 0;
     while q < n {
-        fits = fits & (!words::has(trust, q) | (finals[q as usize].0 <= last));
+        fits = fits & (!words::has(trust, q) | (finals[q as usize] <= last));
         q += 1;
     }
     fits
@@ -119,15 +119,9 @@ impl Register {
         if !counts_fit(self.n, length, self.epoch, count) {
             return false;
         }
-        let leaders = self.leaders;
-        let parents = self.parents;
-        let epochs = self.epochs;
-        let signers = self.signers;
-        let subjects = self.subjects;
-        let finals = self.finals;
-        leaders_fit(leaders, length as usize, self.n)
-            & blocks_fit(parents, epochs, last)
-            & messages_fit(signers, subjects, count as usize, self.n, last)
-            & finals_fit(finals, self.n, self.trust, last)
+        leaders_fit(&self.leaders, length as usize, self.n)
+            & blocks_fit(&self.parents, &self.epochs, last)
+            & messages_fit(&self.signers, &self.subjects, count as usize, self.n, last)
+            & finals_fit(&self.finals, self.n, self.trust, last)
     }
 }

@@ -51,31 +51,23 @@ fn opening_refusal(n: u8, trust: u32, schedule: &[u8]) -> u8
 }
 
 // The table of leaders: the schedule, and office 0 past its end.
-fn leader_table(schedule: &[u8]) -> [Office; 256]
+fn leader_table(schedule: &[u8]) -> [u8; 256]
     requires { ⌜ length (now schedule) ≤ 256 ⌝ }
     ensures { λ r. ⌜ r ≡ leaderTable (now (schedule .entry)) ⌝ }
 {
-    let mut leaders = [Office(0); 256];
+    let mut leaders = [0u8; 256];
     let mut i = 0;
     while i < schedule.len() {
-        leaders[i] = Office(schedule[i]);
+        leaders[i] = schedule[i];
         i += 1;
     }
     leaders
 }
 
 // A register of that epoch with no blocks but genesis and no messages, in which all are ready.
-fn blank(n: u8, trust: u32, length: u16, epoch: u16, leaders: [Office; 256]) -> Register
+fn blank(n: u8, trust: u32, length: u16, epoch: u16, leaders: [u8; 256]) -> Register
     ensures { λ r. ⌜ r ≡ blank n trust length epoch leaders ⌝ }
 {
-    let parents = [Block(0); 256];
-    let epochs = [Epoch(0); 256];
-    let payloads = [0u16; 256];
-    let votes = [false; 1024];
-    let signers = [Office(0); 1024];
-    let subjects = [Block(0); 1024];
-    let places = [0u64; 1024];
-    let finals = [Block(0); 32];
     Register {
         n,
         trust,
@@ -83,16 +75,16 @@ fn blank(n: u8, trust: u32, length: u16, epoch: u16, leaders: [Office; 256]) -> 
         leaders,
         epoch: Epoch(epoch),
         last: Block(0),
-        parents,
-        epochs,
-        payloads,
+        parents: [0; 256],
+        epochs: [0; 256],
+        payloads: [0; 256],
         count: 0,
-        votes,
-        signers,
-        subjects,
-        places,
+        votes: [false; 1024],
+        signers: [0; 1024],
+        subjects: [0; 1024],
+        places: [0; 1024],
         acted: 0,
-        finals,
+        finals: [0; 32],
     }
 }
 
@@ -100,7 +92,7 @@ fn blank(n: u8, trust: u32, length: u16, epoch: u16, leaders: [Office; 256]) -> 
 fn closed() -> Register
     ensures { λ r. ⌜ r ≡ closed ⌝ }
 {
-    blank(0, 0, 0, 0, [Office(0); 256])
+    blank(0, 0, 0, 0, [0; 256])
 }
 
 // The register of an opening that is not refused; trust bits from n up are stored as 0.

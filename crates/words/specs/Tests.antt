@@ -19,6 +19,13 @@ unfoldable pub either : Bool → Bool → Bool
 either true t = true
 either false t = t
 
+-- both tests hold or both fail
+unfoldable pub agree : Bool → Bool → Bool
+agree true true = true
+agree true false = false
+agree false true = false
+agree false false = true
+
 -- every test of a list holds
 unfoldable pub conj : List Bool → Bool
 conj [] = true

@@ -6,16 +6,15 @@ use native.Mathlib.Omega.{arith}
 use lib.ListN.{getD}
 use Rattle.words.specs.Tests.{all}
 use Rattle.words.proofs.Tests.{all-next}
-use Rattle.register.specs.Tables.{epoch, block}
 use Rattle.register.specs.Fitness.{blockFits}
 use Rattle.register.proofs.fitness.blocks_fit.Statement.{statement}
 use Rattle.register.proofs.fitness.blocks_fit.Tie as tie
 
 abbrev Inv-loop : tie.InvT-loop
-Inv-loop last parents epochs fits₀ k₀ fits k = (k ≤ last) × (fits ≡ all k (λ i. blockFits (i + 1) (getD parents (i + 1) (block 0) .0) (getD epochs (i + 1) (epoch 0) .0)))
+Inv-loop parents epochs last fits₀ k₀ fits k = (k ≤ last) × (fits ≡ all k (λ i. blockFits (i + 1) (getD parents (i + 1) 0) (getD epochs (i + 1) 0)))
 
 abbrev μ-loop : tie.MeasureT-loop
-μ-loop last parents epochs fits₀ k₀ fits k = last - k
+μ-loop parents epochs last fits₀ k₀ fits k = last - k
 
 loop-holds : tie.Need-loop-holds Inv-loop μ-loop
 unfolding all
@@ -27,14 +26,14 @@ add-b c = search needs
 cast-at : tie.Need-cast-at Inv-loop μ-loop
 cast-at c = search needs
 
-array-copy-out-block-fits : tie.Need-array-copy-out-block-fits Inv-loop μ-loop
-array-copy-out-block-fits c = search needs
+element-copy-out-block-fits : tie.Need-element-copy-out-block-fits Inv-loop μ-loop
+element-copy-out-block-fits c = search needs
 
 mul-block-fits : tie.Need-mul-block-fits Inv-loop μ-loop
 mul-block-fits c = search needs
 
-array-copy-out-block-fits-2 : tie.Need-array-copy-out-block-fits-2 Inv-loop μ-loop
-array-copy-out-block-fits-2 c = search needs
+element-copy-out-block-fits-2 : tie.Need-element-copy-out-block-fits-2 Inv-loop μ-loop
+element-copy-out-block-fits-2 c = search needs
 
 block-fits-requires : tie.Need-block-fits-requires Inv-loop μ-loop
 block-fits-requires c κs = search needs
@@ -62,9 +61,9 @@ blocks-fit-spec =
     loop-holds
     add-b
     cast-at
-    array-copy-out-block-fits
+    element-copy-out-block-fits
     mul-block-fits
-    array-copy-out-block-fits-2
+    element-copy-out-block-fits-2
     block-fits-requires
     add-k
     loop-less

@@ -5,22 +5,19 @@ use mathlib.Core.Path.{_≡_, refl}
 use mathlib.Core.Bool.{not}
 use native.Mathlib.Omega.{arith}
 use borrow.Author.Tests.{lt-ltb}
-use lib.Dec.{ltb, leb, eqb}
+use lib.Dec.{leb}
 use lib.ListN.{getD}
 use Rattle.words.specs.Tests.{both, either, all}
-use Rattle.words.specs.Digits.{digit}
 use Rattle.words.proofs.Tests.{all-next, or-either}
-use Rattle.register.specs.Tables.{block}
+use Rattle.register.specs.Tables.{trustedIn}
 use Rattle.register.proofs.fitness.finals_fit.Statement.{statement}
 use Rattle.register.proofs.fitness.finals_fit.Tie as tie
 
 abbrev Inv-loop : tie.InvT-loop
-Inv-loop n trust last finals fits₀ q₀ fits q =
-    (q ≤ n)
-    × (fits ≡ all q (λ k. either (not (both (ltb k n) (eqb (digit 2 trust k) 1))) (leb (getD finals k (block 0) .0) last)))
+Inv-loop finals n trust last fits₀ q₀ fits q = (q ≤ n) × (fits ≡ all q (λ k. either (not (trustedIn n trust k)) (leb (getD finals k 0) last)))
 
 abbrev μ-loop : tie.MeasureT-loop
-μ-loop n trust last finals fits₀ q₀ fits q = n - q
+μ-loop finals n trust last fits₀ q₀ fits q = n - q
 
 loop-holds : tie.Need-loop-holds Inv-loop μ-loop
 unfolding all
@@ -42,11 +39,10 @@ loop-less : tie.Need-loop-less Inv-loop μ-loop
 loop-less c = search needs
 
 loop-again : tie.Need-loop-again Inv-loop μ-loop
-unfolding both
+unfolding trustedIn both
 loop-again c = (
   search needs,
-  all-next _ _ _ _ (c .before .before .loop .inv .1)
-      (rw (c .has .ensures, lt-ltb _ _ (c .before .loop-test .taken)) (or-either _ _)),
+  all-next _ _ _ _ (c .before .before .before .loop .inv .1) (rw (c .before .has .ensures, lt-ltb _ _ (c .before .before .loop-test .taken)) (or-either _ _)),
 )
 
 returns : tie.Need-returns Inv-loop μ-loop

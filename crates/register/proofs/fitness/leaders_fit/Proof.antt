@@ -7,15 +7,14 @@ use lib.Dec.{ltb}
 use lib.ListN.{getD}
 use Rattle.words.specs.Tests.{all}
 use Rattle.words.proofs.Tests.{all-next}
-use Rattle.register.specs.Tables.{office}
 use Rattle.register.proofs.fitness.leaders_fit.Statement.{statement}
 use Rattle.register.proofs.fitness.leaders_fit.Tie as tie
 
 abbrev Inv-loop : tie.InvT-loop
-Inv-loop length n leaders fits₀ i₀ fits i = (i ≤ length) × (fits ≡ all i (λ k. ltb (getD leaders k (office 0) .0) n))
+Inv-loop leaders length n fits₀ i₀ fits i = (i ≤ length) × (fits ≡ all i (λ k. ltb (getD leaders k 0) n))
 
 abbrev μ-loop : tie.MeasureT-loop
-μ-loop length n leaders fits₀ i₀ fits i = length - i
+μ-loop leaders length n fits₀ i₀ fits i = length - i
 
 loop-holds : tie.Need-loop-holds Inv-loop μ-loop
 unfolding all
@@ -31,7 +30,7 @@ loop-less : tie.Need-loop-less Inv-loop μ-loop
 loop-less c = search needs
 
 loop-again : tie.Need-loop-again Inv-loop μ-loop
-loop-again c = (search needs, all-next _ _ _ _ (c .before .loop .inv .1) refl)
+loop-again c = (search needs, all-next _ _ _ _ (c .before .before .loop .inv .1) refl)
 
 returns : tie.Need-returns Inv-loop μ-loop
 returns c =

@@ -6,26 +6,25 @@ use native.Mathlib.Omega.{arith}
 use lib.ListN.{getD}
 use Rattle.words.specs.Tests.{all}
 use Rattle.words.proofs.Tests.{all-next}
-use Rattle.register.specs.Tables.{office, block}
 use Rattle.register.specs.Fitness.{messageFits}
 use Rattle.register.proofs.fitness.messages_fit.Statement.{statement}
 use Rattle.register.proofs.fitness.messages_fit.Tie as tie
 
 abbrev Inv-loop : tie.InvT-loop
-Inv-loop count n last signers subjects fits₀ m₀ fits m = (m ≤ count) × (fits ≡ all m (λ i. messageFits n last (getD signers i (office 0) .0) (getD subjects i (block 0) .0)))
+Inv-loop signers subjects count n last fits₀ m₀ fits m = (m ≤ count) × (fits ≡ all m (λ i. messageFits n last (getD signers i 0) (getD subjects i 0)))
 
 abbrev μ-loop : tie.MeasureT-loop
-μ-loop count n last signers subjects fits₀ m₀ fits m = count - m
+μ-loop signers subjects count n last fits₀ m₀ fits m = count - m
 
 loop-holds : tie.Need-loop-holds Inv-loop μ-loop
 unfolding all
 loop-holds c = (search needs, refl)
 
-array-copy-out-message-fits : tie.Need-array-copy-out-message-fits Inv-loop μ-loop
-array-copy-out-message-fits c = search needs
+element-copy-out-message-fits : tie.Need-element-copy-out-message-fits Inv-loop μ-loop
+element-copy-out-message-fits c = search needs
 
-array-copy-out-message-fits-2 : tie.Need-array-copy-out-message-fits-2 Inv-loop μ-loop
-array-copy-out-message-fits-2 c = search needs
+element-copy-out-message-fits-2 : tie.Need-element-copy-out-message-fits-2 Inv-loop μ-loop
+element-copy-out-message-fits-2 c = search needs
 
 message-fits-requires : tie.Need-message-fits-requires Inv-loop μ-loop
 message-fits-requires c κs = search needs
@@ -51,8 +50,8 @@ messages-fit-spec =
     Inv-loop
     μ-loop
     loop-holds
-    array-copy-out-message-fits
-    array-copy-out-message-fits-2
+    element-copy-out-message-fits
+    element-copy-out-message-fits-2
     message-fits-requires
     add-m
     loop-less

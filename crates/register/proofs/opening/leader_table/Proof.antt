@@ -21,11 +21,11 @@ loop-holds : tie.Need-loop-holds Inv-loop μ-loop
 unfolding leaderTable
 loop-holds c = (search needs, refl)
 
-shared-slice-read-t8 : tie.Need-shared-slice-read-t8 Inv-loop μ-loop
-shared-slice-read-t8 c = search needs
+shared-slice-read-leaders : tie.Need-shared-slice-read-leaders Inv-loop μ-loop
+shared-slice-read-leaders c = search needs
 
-array-set-from-leaders : tie.Need-array-set-from-leaders Inv-loop μ-loop
-array-set-from-leaders c = search needs
+array-write-leaders : tie.Need-array-write-leaders Inv-loop μ-loop
+array-write-leaders c = search needs
 
 add-i : tie.Need-add-i Inv-loop μ-loop
 add-i c = search needs
@@ -51,8 +51,8 @@ leader-table-spec =
     Inv-loop
     μ-loop
     loop-holds
-    shared-slice-read-t8
-    array-set-from-leaders
+    shared-slice-read-leaders
+    array-write-leaders
     add-i
     loop-less
     loop-again

@@ -1,13 +1,12 @@
 -- `Register::is_fit`: a count out of its range is refused by `unfit-counts`; within their ranges the counts bound the tables' loops, and
 -- the four tables decide by `fit-tables`.
 use borrow.Author.Needs.{needs}
-use mathlib.Core.Path.{_≡_, sym, _∙_}
-use mathlib.Core.Bool.{true}
+use mathlib.Core.Path.{sym, _∙_}
 use borrow.Author.Tests.{not-true, not-false}
 use Rattle.register.specs.declared.table.Register.{Register}
-use Rattle.register.specs.Tables.{trusted, madeOf, sentOf, finalOf}
+use Rattle.register.specs.Tables.{trusted, sentOf, finalOf}
 use Rattle.register.specs.Fitness.{countsFit, leadersFit, blocksFit, messagesFit, finalsFit}
-use Rattle.register.proofs.FitnessLaws.{Counts, counts-hold, unfit-counts, fit-tables}
+use Rattle.register.proofs.FitnessLaws.{counts-hold, unfit-counts, fit-tables}
 use Rattle.register.proofs.table.Register.is_fit.Statement.{statement}
 use Rattle.register.proofs.table.Register.is_fit.Tie as tie
 
@@ -18,20 +17,11 @@ returns : tie.Need-returns
 unfolding countsFit
 returns c = unfit-counts _ (sym (c .before .counts-fit .ensures) ∙ not-true _ (c .if1 .taken))
 
--- past the first test the counts are in their ranges
-counts : (c : tie.Else1) → countsFit (c .before .before .args .self) ≡ true
-unfolding countsFit
-counts c = sym (c .before .counts-fit .ensures) ∙ not-false _ (c .if1 .left)
-
-ranges : (c : tie.Else1) → (let r : Register = c .before .before .args .self in Counts (r .n) (r .length) (r .epoch .0) (r .count))
-unfolding countsFit
-ranges c = counts-hold _ _ _ _ (counts c)
-
 cast-leaders-fit : tie.Need-cast-leaders-fit
 cast-leaders-fit c = search needs
 
 leaders-fit-requires : tie.Need-leaders-fit-requires
-leaders-fit-requires c κs = ranges (c .before .before .before .before .before .before) .schedule .1
+leaders-fit-requires c κs = counts-hold _ _ _ (c .before .before .before .before .before .args .t1 .count) (sym (c .before .before .before .counts-fit .ensures) ∙ not-false _ (c .before .before .if1 .left)) .schedule .1
 
 blocks-fit-requires : tie.Need-blocks-fit-requires
 blocks-fit-requires c κs = search needs
@@ -40,16 +30,16 @@ cast-messages-fit : tie.Need-cast-messages-fit
 cast-messages-fit c = search needs
 
 messages-fit-requires : tie.Need-messages-fit-requires
-messages-fit-requires c κs = ranges (c .before .before .before .before .before .before .before .before) .messages
+messages-fit-requires c κs = counts-hold _ _ _ (c .before .before .before .before .before .before .before .before .before .before .before .before .before .args .t1 .count) (sym (c .before .before .before .before .before .before .before .before .before .before .before .counts-fit .ensures) ∙ not-false _ (c .before .before .before .before .before .before .before .before .before .before .if1 .left)) .messages
 
 finals-fit-requires : tie.Need-finals-fit-requires
-finals-fit-requires c κs = ranges (c .before .before .before .before .before .before .before .before .before) .offices .1
+finals-fit-requires c κs = counts-hold _ _ _ (c .before .before .before .before .before .before .before .before .before .before .before .before .before .before .before .before .args .t1 .count) (sym (c .before .before .before .before .before .before .before .before .before .before .before .before .before .before .counts-fit .ensures) ∙ not-false _ (c .before .before .before .before .before .before .before .before .before .before .before .before .before .if1 .left)) .offices .1
 
 returns-2 : tie.Need-returns-2
-unfolding leadersFit blocksFit messagesFit finalsFit trusted madeOf sentOf finalOf
+unfolding countsFit leadersFit blocksFit messagesFit finalsFit trusted sentOf finalOf
 returns-2 c =
-    fit-tables _ _ _ _ _ (counts (c .before .before .before .before .before .before .before .before .before .before)) (c .before .before .before .leaders-fit .ensures)
-    (c .before .before .blocks-fit .ensures) (c .before .messages-fit .ensures) (c .finals-fit .ensures)
+    fit-tables _ _ _ _ _ (sym (c .before .before .before .before .before .before .before .before .before .before .before .before .before .before .before .counts-fit .ensures) ∙ not-false _ (c .before .before .before .before .before .before .before .before .before .before .before .before .before .before .if1 .left)) (c .before .before .before .before .before .before .before .before .before .before .before .leaders-fit .ensures) (c .before .before .before .before .before .before .before .blocks-fit .ensures)
+    (c .before .before .before .messages-fit .ensures) (c .finals-fit .ensures)
 
 pub is-fit-spec : {M : Type 1} → statement M
 is-fit-spec =
