@@ -7,3 +7,11 @@ pub mod Naming
 pub mod FitnessLaws
 pub mod OpeningLaws
 pub mod Views
+pub mod Changing
+pub mod Accepted
+pub mod Scans
+pub mod Testing
+pub mod Ranges
+pub mod Judging
+pub mod FitSteps
+pub mod FitOpening

@@ -7,3 +7,5 @@ pub mod Refusals
 pub mod Opening
 pub mod Effects
 pub mod Steps
+pub mod Promises
+pub mod Changes

@@ -1,9 +1,12 @@
 // The shared register of plots: the offices' numbers, the register, its opening and the steps that change it.
+mod change;
 mod fitness;
 mod opening;
 pub mod refusal;
+mod scan;
 pub mod sorts;
 pub mod step;
+mod steps;
 pub mod table;
 
 pub use sorts::Block;

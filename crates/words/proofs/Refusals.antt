@@ -1,13 +1,14 @@
 -- What a list of numbered tests says of each test.
-use Prim.Native.Nat.{ℕ, suc}
+use Prim.Native.Nat.{ℕ, suc, _<_}
 use mathlib.Core.Path.{_≡_, refl}
 use mathlib.Core.Bool.{Bool, true, false}
 use mathlib.Core.List.{List, [], _∷_}
 use native.Mathlib.Omega.{arith}
-use borrow.Author.Tests.{eqb-true, eqb-false}
-use lib.Dec.{eqb}
-use Rattle.words.specs.Tests.{choose}
-use Rattle.words.specs.Refusals.{Refusal, first}
+use borrow.Author.Tests.{eqb-true, eqb-false, ltb-true}
+use lib.Dec.{eqb, ltb}
+use Rattle.words.specs.Tests.{choose, both}
+use Rattle.words.proofs.Tests.{both-left, both-right}
+use Rattle.words.specs.Refusals.{Refusal, first, until, since}
 
 -- the test with that number; false where the list has none before an entry that is numbered 0, and so refuses nothing
 unfoldable pub numbered : ℕ → List Refusal → Bool
@@ -32,3 +33,45 @@ cleared k [] h = refl
 cleared k (r ∷ rs) h =
     entry (r .test) (eqb (suc k) (r .number)) (eqb 0 (r .number)) k (r .number) (first rs) (numbered (suc k) rs) refl refl h
     (cleared k rs)
+
+-- no test of the list is numbered 0
+unfoldable pub positive : List Refusal → Bool
+positive [] = true
+positive (r ∷ rs) = both (ltb 0 (r .number)) (positive rs)
+
+-- one entry's part in `first-early`
+early-entry : (t : Bool) (m f g : ℕ) → (choose t m g ≡ 0 → ⊥) → ((g ≡ 0 → ⊥) → f ≡ g) → choose t m f ≡ choose t m g
+unfolding choose
+early-entry true m f g some tail = refl
+early-entry false m f g some tail = tail some
+
+-- where a test before the one numbered k refuses, it decides
+pub first-early : (k : ℕ) (rs : List Refusal) → (first (until k rs) ≡ 0 → ⊥) → first rs ≡ first (until k rs)
+unfolding first until choose
+first-early k [] some = refl
+first-early k (r ∷ rs) some = by (eqb k (r .number)) some (first-early k rs)
+  where
+    by : (e : Bool) → (first (choose e [] (r ∷ until k rs)) ≡ 0 → ⊥) → ((first (until k rs) ≡ 0 → ⊥) → first rs ≡ first (until k rs))
+        → first (r ∷ rs) ≡ first (choose e [] (r ∷ until k rs))
+    by true some tail = absurd (some (unfold first choose in refl))
+    by false some tail = unfold first choose in early-entry (r .test) (r .number) (first rs) (first (until k rs)) some tail
+
+-- one entry's part in `first-late`
+late-entry : (t : Bool) (m u f g : ℕ) → 0 < m → choose t m u ≡ 0 → (u ≡ 0 → f ≡ g) → choose t m f ≡ g
+unfolding choose
+late-entry true m u f g pos none tail = absurd (omega arith)
+late-entry false m u f g pos none tail = tail none
+
+-- where none of them refuses, the tests from the one numbered k on decide
+pub first-late : (k : ℕ) (rs : List Refusal) → positive rs ≡ true → first (until k rs) ≡ 0 → first rs ≡ first (since k rs)
+unfolding first until since choose positive
+first-late k [] p none = refl
+first-late k (r ∷ rs) p none = by (eqb k (r .number)) none (first-late k rs (both-right _ _ p))
+  where
+    pos : 0 < r .number
+    pos = ltb-true 0 (r .number) (both-left _ _ p)
+
+    by : (e : Bool) → first (choose e [] (r ∷ until k rs)) ≡ 0 → (first (until k rs) ≡ 0 → first rs ≡ first (since k rs))
+        → first (r ∷ rs) ≡ first (choose e (r ∷ rs) (since k rs))
+    by true none tail = unfold choose in refl
+    by false none tail = unfold first choose in late-entry (r .test) (r .number) (first (until k rs)) (first rs) _ pos none tail

@@ -1,15 +1,16 @@
 -- What follows from a test that holds, and what makes it hold.
-use Prim.Native.Nat.{ℕ, zero, suc, _<_, _+_}
+use Prim.Native.Nat.{ℕ, zero, suc, _<_, _≤_, _+_}
 use mathlib.Core.Path.{_≡_, refl, sym, ap, subst}
-use mathlib.Core.Bool.{Bool, true, false, _&&_, _||_}
+use mathlib.Core.Bool.{Bool, true, false, _&&_, _||_, Bool·beq}
 use mathlib.Core.List.{List, [], _∷_}
 use mathlib.Core.Logic.{_⊎_, inl, inr, ⊎-elim}
+use native.Mathlib.Nat.{add-zero, add-suc}
 use native.Mathlib.Omega.{arith}
 use native.Mathlib.Numerals.{add-one}
 use native.Mathlib.Decide.{ℕ-discrete}
 use borrow.Author.Tests.{eqb-true, eq-eqb}
 use lib.Dec.{eqb}
-use Rattle.words.specs.Tests.{choose, both, either, all, any, every, member, lowest, conj}
+use Rattle.words.specs.Tests.{choose, both, either, agree, all, any, every, member, lowest, conj}
 
 -- no test both holds and fails
 pub clash : {A : Type 0} {t : Bool} → t ≡ true → t ≡ false → A
@@ -40,6 +41,12 @@ pub both-false : (a b : Bool) → both a b ≡ false → a ≡ true → b ≡ fa
 unfolding both
 both-false true b h k = h
 both-false false b h k = clash k refl
+
+-- where the second test fails whenever the first holds, they do not both hold
+pub both-fails : (a b : Bool) → (a ≡ true → b ≡ false) → both a b ≡ false
+unfolding both
+both-fails true b h = h refl
+both-fails false b h = refl
 
 pub either-cases : (a b : Bool) → either a b ≡ true → (a ≡ true) ⊎ (b ≡ true)
 unfolding either
@@ -171,3 +178,57 @@ and-four true true true false = refl
 and-four true true false d = refl
 and-four true false c d = refl
 and-four false b c d = refl
+
+-- two tests that say the same of each number below n
+pub any-same : (p q : ℕ → Bool) (n : ℕ) → ((k : ℕ) → k < n → p k ≡ q k) → any n p ≡ any n q
+unfolding any
+any-same p q zero h = refl
+any-same p q (suc n) h = rw (any-same p q n (λ k l. h k (omega arith)), h n (omega arith))
+
+-- where no number passes a test, none of fewer numbers passes a stricter one
+pub any-fewer : (p q : ℕ → Bool) (m n : ℕ) → m ≤ n → ((k : ℕ) → q k ≡ true → p k ≡ true) → any n p ≡ false → any m q ≡ false
+any-fewer p q m n less h none = ⊎-elim some (λ f. f) (decided (any m q))
+  where
+    some : any m q ≡ true → any m q ≡ false
+    some t =
+        let f : (k : ℕ) × (k < m) × (q k ≡ true) = any-at q m t in
+        clash (any-make p n (f .0) (omega (arith, f .1)) (h (f .0) (f .2))) none
+
+module _ (p : ℕ → Bool) (from : ℕ) where
+  -- some number of a part is some number of the whole
+  pub any-part : (size n : ℕ) → from + size ≤ n → any size (λ i. p (from + i)) ≡ true → any n p ≡ true
+  any-part size n within h =
+      let f : (i : ℕ) × (i < size) × (p (from + i) ≡ true) = any-at (λ i. p (from + i)) size h in
+      any-make p n (from + f .0) (omega (arith, f .1)) (f .2)
+
+  -- none before a part and none in it
+  pub any-neither : (size : ℕ) → any from p ≡ false → any size (λ i. p (from + i)) ≡ false → any (from + size) p ≡ false
+  unfolding any either
+  any-neither zero before part = rw add-zero before
+  any-neither (suc size) before part =
+      let none : any size (λ i. p (from + i)) ≡ false = either-false-left _ (p (from + size)) part in
+      rw (add-suc, any-neither size before none) (either-false-right (any size (λ i. p (from + i))) _ part)
+
+-- what `Lowest` says of a number above 0, said of the number before it
+lowest-back : (n k : ℕ) (p : ℕ → Bool) → Lowest (suc n) p (suc k) → Lowest n (λ i. p (suc i)) k
+lowest-back n k p (inl h) = inl (omega (arith, h .0), h .1)
+lowest-back n k p (inr h) = inr (omega (arith, h))
+
+-- the number of which `Lowest` says so, and before which none passes the test, is the lowest
+pub lowest-only : (n k : ℕ) (p : ℕ → Bool) → ((i : ℕ) → i < k → p i ≡ false) → Lowest n p k → lowest n p ≡ k
+unfolding lowest choose
+lowest-only zero k p none (inl h) = absurd (omega (arith, h .0))
+lowest-only zero k p none (inr h) = sym h
+lowest-only (suc n) zero p none (inl h) = rw (h .1)
+lowest-only (suc n) zero p none (inr h) = absurd (omega (arith, h))
+lowest-only (suc n) (suc k) p none h =
+    rw (none zero (omega arith))
+    (ap suc (lowest-only n k (λ i. p (suc i)) (λ i l. none (suc i) (omega arith)) (lowest-back n k p h)))
+
+-- the code's `==` of two tests, and with `&` a third
+pub and-agree : (a b t : Bool) → Bool·beq a b && t ≡ both (agree a b) t
+unfolding both agree
+and-agree true true t = refl
+and-agree true false t = refl
+and-agree false true t = refl
+and-agree false false t = refl

@@ -1,0 +1,35 @@
+-- `advance`: refused at the schedule's end, else the next epoch.
+use borrow.Author.Needs.{needs}
+use mathlib.Core.Path.{_∙_}
+use borrow.Author.Tests.{le-leb, lt-leb}
+use Rattle.words.specs.Tests.{choose}
+use Rattle.words.specs.Refusals.{first}
+use Rattle.register.specs.Refusals.{spent}
+use Rattle.register.specs.Steps.{advance}
+use Rattle.register.specs.Changes.{whole, answer, heading, nextHead}
+use Rattle.register.proofs.steps.advance.advance.Statement.{statement}
+use Rattle.register.proofs.steps.advance.advance.Tie as tie
+
+refused-requires : tie.Need-refused-requires
+refused-requires c κs = search needs
+
+returns : tie.Need-returns
+unfolding answer advance spent first choose whole
+returns c = c .refused .ensures ∙ simp (le-leb _ _ (c .before .if1 .taken))
+
+add-headed : tie.Need-add-headed
+add-headed c = search needs
+
+add-headed-2 : tie.Need-add-headed-2
+add-headed-2 c = search needs
+
+headed-requires : tie.Need-headed-requires
+headed-requires c κs = search needs
+
+returns-2 : tie.Need-returns-2
+unfolding answer advance spent first choose whole heading nextHead
+returns-2 c = c .headed .ensures ∙ simp (lt-leb _ _ (c .before .if1 .left))
+
+pub advance-spec : {M : Type 1} → statement M
+advance-spec =
+    tie.close (tie.spec refused-requires returns add-headed add-headed-2 headed-requires returns-2)

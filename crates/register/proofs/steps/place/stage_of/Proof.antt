@@ -1,0 +1,52 @@
+-- `stage_of`: what was not sent is nowhere, an untrusted office keeps nothing, and else it is a digit of the word.
+use borrow.Author.Needs.{needs}
+use mathlib.Core.Path.{sym, _∙_}
+use borrow.Author.Tests.{not-true, not-false}
+use Rattle.register.specs.Tables.{trusted}
+use Rattle.register.specs.Changes.{whole}
+use Rattle.register.proofs.Places.{nowhere-unsent, nowhere-untrusted, placed-stage}
+use Rattle.register.proofs.steps.place.stage_of.Statement.{statement}
+use Rattle.register.proofs.steps.place.stage_of.Tie as tie
+
+returns : tie.Need-returns
+unfolding whole
+returns c = nowhere-unsent _ _ _ (c .if1 .taken)
+
+trusted-at-requires : tie.Need-trusted-at-requires
+trusted-at-requires c κs = search needs
+
+returns-2 : tie.Need-returns-2
+unfolding whole trusted
+returns-2 c = nowhere-untrusted _ _ _ (sym (c .before .trusted-at .ensures) ∙ not-true _ (c .if2 .taken))
+
+mul-stage : tie.Need-mul-stage
+mul-stage c = search needs
+
+element-copy-out-stage : tie.Need-element-copy-out-stage
+element-copy-out-stage c = search needs
+
+stage-requires : tie.Need-stage-requires
+stage-requires c κs = search needs
+
+returns-3 : tie.Need-returns-3
+unfolding whole trusted
+returns-3 c =
+    sym
+    (placed-stage _ _ _ _
+    (record {
+      trusted = sym (c .before .before .before .trusted-at .ensures) ∙ not-false _ (c .before .before .if2 .left);
+      sent = c .before .before .before .before .if1 .left;
+      digit = sym (c .stage .ensures);
+    }))
+
+pub stage-of-spec : {M : Type 1} → statement M
+stage-of-spec =
+    tie.close
+    (tie.spec
+    returns
+    trusted-at-requires
+    returns-2
+    mul-stage
+    element-copy-out-stage
+    stage-requires
+    returns-3)
