@@ -1,6 +1,6 @@
 -- What a step changes, as the code passes it on. Only contracts inside this crate cite these definitions; no promise to makers does.
 use Prim.Native.Nat.{ℕ, _+_, _<_}
-use mathlib.Core.Bool.{Bool, false}
+use mathlib.Core.Bool.{Bool, true, false}
 use mathlib.Core.List.{List}
 use lib.Dec.{eqb, leb}
 use lib.ListN.{getD, set}
@@ -203,7 +203,7 @@ making c b p e w =
 unfoldable pub naming : Change → (b p e w : ℕ) → Change
 naming c b p e w = choose (leb b (c .head .last .0)) c (making c b p e w)
 
--- a message is sent; no other message's places change, unless they did already
+-- a message is sent; its number is the value
 unfoldable pub sending : Change → (vote : Bool) → (signer subject w : ℕ) → Change
 sending c vote signer subject w =
     record {
@@ -212,10 +212,24 @@ sending c vote signer subject w =
       head = sentHead (c .head);
       block = c .block;
       message = record { at = c .head .count; vote = vote; signer = signer; subject = subject; place = w };
-      place = c .place;
+      place = record { at = c .head .count; place = w };
       ending = c .ending;
     }
 
 -- draft: block b is named, and is the value
 unfoldable pub drafted : Change → (b p e w : ℕ) → Change
 drafted c b p e w = heading (naming c b p e w) b (naming c b p e w .head)
+
+-- finalise: office q's final block becomes b, and is the value
+unfoldable pub finalised : Change → (q b : ℕ) → Change
+finalised c q b = heading (ending c q b) b (c .head)
+
+-- vote: message m moves on for office q, a vote for block b is sent, and the office has acted
+unfoldable pub voted : Change → (places : List ℕ) → (m q b : ℕ) → (w : ℕ) → Change
+voted c places m q b w =
+    heading (moving (sending c true q b w) m (raise 4 (getD places m 0) q)) (c .head .count) (actedHead (sentHead (c .head)) q)
+
+-- propose: block b is named, its proposal is sent, and the office has acted
+unfoldable pub proposed : Change → (b p e x : ℕ) → (q : ℕ) → (w : ℕ) → Change
+proposed c b p e x q w =
+    heading (sending (naming c b p e x) false q b w) (c .head .count) (actedHead (sentHead (naming c b p e x .head)) q)

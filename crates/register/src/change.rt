@@ -119,10 +119,15 @@ impl Change {
             subject,
             place: word,
         };
+        let place = PlaceEntry {
+            at: count as usize,
+            place: word,
+        };
         head.count = count + 1;
         self.value = count;
         self.head = head;
         self.message = message;
+        self.place = place;
         self
     }
 
