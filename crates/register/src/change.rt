@@ -112,17 +112,15 @@ impl Change {
     {
         let mut head = self.head;
         let count = head.count;
+        let at = count as usize;
         let message = MessageEntry {
-            at: count as usize,
+            at,
             vote,
             signer,
             subject,
             place: word,
         };
-        let place = PlaceEntry {
-            at: count as usize,
-            place: word,
-        };
+        let place = PlaceEntry { at, place: word };
         head.count = count + 1;
         self.value = count;
         self.head = head;

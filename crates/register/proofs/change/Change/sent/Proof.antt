@@ -5,8 +5,8 @@ use Rattle.register.specs.Changes.{sending, sentHead}
 use Rattle.register.proofs.change.Change.sent.Statement.{statement}
 use Rattle.register.proofs.change.Change.sent.Tie as tie
 
-cast-t9 : tie.Need-cast-t9
-cast-t9 c = search needs
+cast-at : tie.Need-cast-at
+cast-at c = search needs
 
 add-head : tie.Need-add-head
 add-head c = search needs
@@ -16,4 +16,4 @@ unfolding sending sentHead
 returns c = refl
 
 pub sent-spec : {M : Type 1} → statement M
-sent-spec = tie.close (tie.spec cast-t9 add-head returns)
+sent-spec = tie.close (tie.spec cast-at add-head returns)
