@@ -10,8 +10,10 @@ pub mod Views
 pub mod Changing
 pub mod Accepted
 pub mod Scans
+pub mod Sending
 pub mod Testing
 pub mod Ranges
 pub mod Judging
 pub mod FitSteps
 pub mod FitOpening
+pub mod Searching

@@ -1,16 +1,27 @@
 -- What the code finds of a register, said of the tests of a step.
 use Prim.Native.Nat.{ℕ, _+_, _<_, _≤_}
-use mathlib.Core.Path.{_≡_, ap}
-use mathlib.Core.Bool.{true, false, not}
+use mathlib.Core.Path.{_≡_, refl, ap}
+use mathlib.Core.Bool.{Bool, true, false, not}
+use mathlib.Core.List.{List, [], _∷_, _++_}
 use native.Mathlib.Omega.{arith}
 use borrow.Author.Tests.{eq-eqb, ne-eqb, le-leb, lt-leb, lt-ltb, le-ltb, ltb-true}
+use lib.Dec.{eqb}
 use lib.ListN.{getD}
-use Rattle.words.proofs.Tests.{both-make, both-fails}
+use Rattle.words.specs.Tests.{both, conj}
+use Rattle.words.proofs.Tests.{both-make, both-fails, both-all}
 use Rattle.register.specs.declared.table.Register.{Register}
-use Rattle.register.specs.Tables.{trusted, named, sentOf}
+use Rattle.register.specs.Tables.{trusted, parentOf, epochOf, named, sentOf}
 use Rattle.register.specs.Views.{stage, inTransit, inInbox, signedIn}
-use Rattle.register.specs.Refusals.{noOffice, noBlock, noMessage, barred, notInHand, notSent, entered, blocksFull, messagesFull}
+use Rattle.register.specs.Chains.{chainNotarised}
+use Rattle.register.specs.Refusals.{noOffice, noBlock, noMessage, barred, notInHand, notSent, entered, finalises, blocksFull, messagesFull}
 use Rattle.register.proofs.Scans.{signed-in, named-most}
+
+-- the last of a list of tests, made after the others
+conj-last : (ts : List Bool) (t : Bool) → conj (ts ++ (t ∷ [])) ≡ both (conj ts) t
+unfolding conj both
+conj-last [] t = both-all t
+conj-last (true ∷ ts) t = conj-last ts t
+conj-last (false ∷ ts) t = refl
 
 module _ (r : Register) where
   -- 6
@@ -63,6 +74,21 @@ module _ (r : Register) where
       → entered r q m ≡ signedIn (r .places) (r .signers) (r .subjects) (r .count) q (getD (r .signers) m 0) (getD (r .subjects) m 0)
   unfolding entered sentOf
   entered-in q m t = signed-in r q (getD (r .signers) m 0) (getD (r .subjects) m 0) t
+
+  -- 21, by the blocks and their epochs first, and then by the chain
+  pub finalises-by : (q b c d : ℕ) → c ≡ parentOf r b → d ≡ parentOf r c
+      → finalises r q b
+      ≡ both
+      (conj
+      (not (eqb b 0)
+      ∷ not (eqb c 0)
+      ∷ not (eqb d 0)
+      ∷ eqb (epochOf r c) (epochOf r d + 1)
+      ∷ eqb (epochOf r b) (epochOf r d + 2)
+      ∷ []))
+      (chainNotarised r q b)
+  unfolding finalises
+  finalises-by q b c d ec ed = rw (ed, ec) (conj-last _ (chainNotarised r q b))
 
   -- 23
   pub not-in-transit : (q m : ℕ) → (stage r q m ≡ 1 → ⊥) → notSent r q m ≡ true

@@ -9,3 +9,4 @@ pub mod Effects
 pub mod Steps
 pub mod Promises
 pub mod Changes
+pub mod Searches

@@ -1,6 +1,8 @@
 // The shared register of plots: the offices' numbers, the register, its opening and the steps that change it.
+mod chain;
 mod change;
 mod fitness;
+mod notary;
 mod opening;
 pub mod refusal;
 mod scan;

@@ -1,19 +1,22 @@
 -- Laws of words with one digit per office, over any base.
 use Prim.Native.Nat.{ℕ, zero, suc, _+_, _-_, _*_, _/_, _%_, _^_, _≤_, _<_, min}
-use mathlib.Core.Path.{_≡_, refl, ap, _∙_}
+use mathlib.Core.Path.{_≡_, refl, sym, ap, _∙_}
+use mathlib.Core.Bool.{Bool, true, false}
 use mathlib.Core.Logic.{⊎-elim}
-use native.Mathlib.Nat.{add-comm, add-zero, eq-or-lt-of-le, lt-of-lt-of-le, mul-assoc, mul-comm, mul-zero, one-le-pow, one-mul, pow-le-pow-right, pow-suc, pow-succ', pow-zero, zero-add, zero-mul}
-use native.Mathlib.Nat.{add-div-right, add-mul-div-right, add-mul-mod-self-right, div-add-mod', div-div-eq-div-mul, div-eq-of-lt, div-lt-iff-lt-mul, mod-add-mod, mod-eq-of-lt, mod-lt, mod-one, mul-mod-right, zero-div, zero-mod}
-use native.Mathlib.Decide.{decLt, decLe, le-ind}
+use native.Mathlib.Nat.{add-comm, add-mul, add-zero, eq-or-lt-of-le, lt-of-lt-of-le, mul-assoc, mul-comm, mul-zero, one-le-pow, one-mul, pow-le-pow-right, pow-suc, pow-succ', pow-zero, zero-add, zero-mul}
+use native.Mathlib.Nat.{add-div-right, add-mod-mod, add-mul-div-right, add-mul-mod-self-right, div-add-mod', div-div-eq-div-mul, div-eq-of-lt, div-lt-iff-lt-mul, mod-add-mod, mod-eq-of-lt, mod-lt, mod-one, mul-mod-right, zero-div, zero-mod}
+use native.Mathlib.Decide.{ℕ-discrete, decLt, decLe, le-ind}
 use native.Mathlib.Numerals.{add-one}
 use native.Mathlib.Omega.{arith}
+use borrow.Author.Tests.{eq-eqb, eqb-false, ne-eqb}
 use lib.Arith.{digits-lt, digits-div, mod-mul}
 use lib.Count.{ones, onesIn, ones-cat}
 use lib.Dec.{eqb}
 use lib.Pow.{pow-add}
 use Rattle.words.specs.Digits.{digit, raise, fill}
 use Rattle.words.specs.Sums.{tally, weigh, unit}
-use Rattle.words.specs.Tests.{choose}
+use Rattle.words.specs.Tests.{choose, either}
+use Rattle.words.proofs.Tests.{either-left, either-none, either-right}
 
 -- a digit is below the base
 pub digit-lt : (b w q : ℕ) → 0 < b → digit b w q < b
@@ -190,3 +193,82 @@ ones-fill zero f small = refl
 ones-fill (suc n) f small =
     rw (add-comm (fill 2 n f) (f n * 2 ^ n), ones-cat n (f n) (fill 2 n f) (fill-lt 2 n f small), ones-digit (f n) (small n), ones-fill n f small)
     (add-comm (choose (eqb (f n) 1) 1 0) (tally n (λ q. eqb (f q) 1)))
+
+-- more at a place that a word fills is more in the digit of that place
+pub fill-add : (b n d : ℕ) (f : ℕ → ℕ) (q : ℕ) → q < n
+    → fill b n f + d * b ^ q ≡ fill b n (λ k. choose (eqb k q) (f k + d) (f k))
+unfolding fill choose
+fill-add b zero d f q h = absurd (omega arith)
+fill-add b (suc n) d f q h =
+    let within : q ≤ n = omega arith in
+    ⊎-elim
+    (λ (e : q ≡ n).
+    let below : fill b n (λ k. choose (eqb k q) (f k + d) (f k)) ≡ fill b n f =
+    fill-ext b n _ f (λ k l. rw (ne-eqb k q (λ x. omega arith))) in
+    rw (below, eq-eqb n q (sym e), e, add-mul) (omega arith))
+    (λ (l : q < n). rw (← fill-add b n d f q l, ne-eqb n q (λ x. omega arith)) (omega arith))
+    (eq-or-lt-of-le within)
+
+-- a digit of base 2 is 1 exactly where the test that it was put in for holds
+bit-chosen : (t : Bool) → eqb (choose t 1 0) 1 ≡ t
+unfolding choose
+bit-chosen true = refl
+bit-chosen false = refl
+
+-- such a digit is below 2
+chosen-lt : (t : Bool) → choose t 1 0 < 2
+unfolding choose
+chosen-lt true = omega arith
+chosen-lt false = omega arith
+
+-- a digit of base 2, put in again
+chosen-bit : (d : ℕ) → d < 2 → choose (eqb d 1) 1 0 ≡ d
+unfolding choose
+chosen-bit zero h = refl
+chosen-bit (suc zero) h = refl
+chosen-bit (suc (suc d)) h = absurd (omega arith)
+
+-- the set of the numbers below n of which a test holds has just these
+pub bit-set : (n : ℕ) (p : ℕ → Bool) (q : ℕ) → q < n → eqb (digit 2 (fill 2 n (λ k. choose (p k) 1 0)) q) 1 ≡ p q
+bit-set n p q h = rw (digit-fill 2 n (λ k. choose (p k) 1 0) (λ k. chosen-lt (p k)) q h) (bit-chosen (p q))
+
+-- a word of n bits is the set of the numbers of which a test holds, where its bits say what the test says
+pub set-of-bits : (n w : ℕ) (p : ℕ → Bool) → w < 2 ^ n → ((q : ℕ) → q < n → eqb (digit 2 w q) 1 ≡ p q)
+    → w ≡ fill 2 n (λ k. choose (p k) 1 0)
+set-of-bits n w p fit same =
+    sym (fill-whole 2 n n w (omega arith) fit (omega arith))
+    ∙ fill-ext 2 n (digit 2 w) (λ k. choose (p k) 1 0)
+    (λ q h. sym (chosen-bit (digit 2 w q) (digit-lt 2 w q (omega arith))) ∙ ap (λ (t : Bool). choose t 1 0) (same q h))
+
+-- a bit that was 0, raised: the set has one more number
+bit-raise : (w q k : ℕ) → digit 2 w q + 1 < 2 → eqb (digit 2 (raise 2 w q) k) 1 ≡ either (eqb (digit 2 w k) 1) (eqb q k)
+bit-raise w q k room =
+    elim (ℕ-discrete k q) as (λ _. eqb (digit 2 (raise 2 w q) k) 1 ≡ either (eqb (digit 2 w k) 1) (eqb q k)) [
+      | yes e ↦ let one : digit 2 (raise 2 w q) q ≡ 1 = omega (arith, digit-raise-same 2 w q room) in
+          rw (e, one) (sym (either-right (eqb (digit 2 w q) 1) (eqb q q) (eq-eqb q q refl)))
+      | no d ↦ rw (digit-raise-other 2 w q k room d, ne-eqb q k (λ e. d (sym e)), either-none)
+    ]
+
+module _ (n w q : ℕ) (fit : w < 2 ^ n) where
+  -- the set of n bits with one more number; a number from n up leaves it as it is
+  pub set-raise : eqb (digit 2 w q) 1 ≡ false → raise 2 w q % 2 ^ n ≡ fill 2 n (λ k. choose (either (eqb (digit 2 w k) 1) (eqb q k)) 1 0)
+  unfolding raise
+  set-raise none =
+      let room : digit 2 w q + 1 < 2 = omega (arith, digit-lt 2 w q (omega arith), eqb-false (digit 2 w q) 1 none) in
+      elim (decLt q n) as (λ _. raise 2 w q % 2 ^ n ≡ fill 2 n (λ k. choose (either (eqb (digit 2 w k) 1) (eqb q k)) 1 0)) [
+        | yes h ↦ let more : raise 2 w q < 2 ^ n = raise-lt 2 w q n room h fit in
+            mod-eq-of-lt more ∙ set-of-bits n (raise 2 w q) (λ k. either (eqb (digit 2 w k) 1) (eqb q k)) more (λ k l. bit-raise w q k room)
+        | no h ↦ rw (← add-mod-mod, pow-past 2 q n (omega arith), add-zero, mod-eq-of-lt fit)
+            (set-of-bits n w (λ k. either (eqb (digit 2 w k) 1) (eqb q k)) fit
+            (λ k l. rw (ne-eqb q k (omega arith), either-none)))
+      ]
+
+  -- a number that is in the set already changes nothing
+  pub set-kept : eqb (digit 2 w q) 1 ≡ true → w ≡ fill 2 n (λ k. choose (either (eqb (digit 2 w k) 1) (eqb q k)) 1 0)
+  set-kept in-set =
+      set-of-bits n w (λ k. either (eqb (digit 2 w k) 1) (eqb q k)) fit
+      (λ k l.
+      elim (ℕ-discrete k q) as (λ _. eqb (digit 2 w k) 1 ≡ either (eqb (digit 2 w k) 1) (eqb q k)) [
+        | yes e ↦ rw (e, in-set) (sym (either-left true (eqb q q) refl))
+        | no d ↦ rw (ne-eqb q k (λ e. d (sym e)), either-none)
+      ])

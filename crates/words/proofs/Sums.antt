@@ -94,3 +94,14 @@ weigh-not w (suc n) p = omega (arith, weigh-not w n p, either-way (p n) (w n))
 pub tally-not : (n : ℕ) (p : ℕ → Bool) → tally n p + tally n (λ k. not (p k)) ≡ n
 unfolding tally
 tally-not n p = weigh-not unit n p ∙ tally-always n
+
+-- two tests that agree below n weigh the same
+weigh-ext : (w : ℕ → ℕ) (n : ℕ) (p q : ℕ → Bool) → ((k : ℕ) → k < n → p k ≡ q k) → weigh w n p ≡ weigh w n q
+unfolding weigh
+weigh-ext w zero p q same = refl
+weigh-ext w (suc n) p q same = rw (same n (omega arith), weigh-ext w n p q (λ k l. same k (omega arith)))
+
+-- two tests that agree below n let as many numbers pass
+pub tally-ext : (n : ℕ) (p q : ℕ → Bool) → ((k : ℕ) → k < n → p k ≡ q k) → tally n p ≡ tally n q
+unfolding tally
+tally-ext n p q same = weigh-ext unit n p q same

@@ -232,3 +232,41 @@ and-agree true true t = refl
 and-agree true false t = refl
 and-agree false true t = refl
 and-agree false false t = refl
+
+-- a test, and one that never holds
+pub both-none : (a : Bool) → both a false ≡ false
+unfolding both
+both-none true = refl
+both-none false = refl
+
+-- a test, and one that always holds
+pub both-all : (a : Bool) → both a true ≡ a
+unfolding both
+both-all true = refl
+both-all false = refl
+
+-- a test, or one that never holds
+pub either-none : (a : Bool) → either a false ≡ a
+unfolding either
+either-none true = refl
+either-none false = refl
+
+-- a test that fails of each number below n holds of none
+pub any-fails : (p : ℕ → Bool) (n : ℕ) → ((k : ℕ) → k < n → p k ≡ false) → any n p ≡ false
+unfolding any either
+any-fails p zero h = refl
+any-fails p (suc n) h = rw (any-fails p n (λ k l. h k (omega arith))) (h n (omega arith))
+
+-- two pairs of tests, paired the other way
+both-swap : (a b c d : Bool) → both (both a c) (both b d) ≡ both (both a b) (both c d)
+unfolding both
+both-swap true true c d = refl
+both-swap true false true d = refl
+both-swap true false false d = refl
+both-swap false b c d = refl
+
+-- two tests of every entry of a list are one
+pub every-both : (p q : ℕ → Bool) (xs : List ℕ) → both (every p xs) (every q xs) ≡ every (λ x. both (p x) (q x)) xs
+unfolding every both
+every-both p q [] = refl
+every-both p q (x ∷ xs) = rw (← every-both p q xs) (both-swap (p x) (q x) (every p xs) (every q xs))

@@ -1,6 +1,9 @@
 // The eight steps, each as the change that it makes.
 mod advance;
+mod bad_send;
 mod deliver;
 mod draft;
 mod enter;
+mod finalise;
 mod place;
+mod sent;

@@ -1,0 +1,28 @@
+-- `register::notary::is_enough` asks whether three times the members is at least twice n; there are at most n of them.
+use borrow.Author.Needs.{needs}
+use Prim.Native.Nat.{ℕ}
+use native.Mathlib.Omega.{arith}
+use lib.Dec.{eqb}
+use Rattle.words.specs.Digits.{digit}
+use Rattle.words.proofs.Sums.{tally-not}
+use Rattle.register.specs.Views.{enough}
+use Rattle.register.proofs.notary.is_enough.Statement.{statement}
+use Rattle.register.proofs.notary.is_enough.Tie as tie
+
+mul-result : tie.Need-mul-result
+mul-result c = search needs
+
+members-requires : tie.Need-members-requires
+members-requires c κs = search needs
+
+mul-result-2 : tie.Need-mul-result-2
+mul-result-2 c =
+    let set : ℕ = c .before .args .set in
+    omega (arith, c .members .ensures, tally-not (c .before .args .n) (λ s. eqb (digit 2 set s) 1))
+
+returns : tie.Need-returns
+unfolding enough
+returns c = rw (c .members .ensures)
+
+pub is-enough-spec : {M : Type 1} → statement M
+is-enough-spec = tie.close (tie.spec mul-result members-requires mul-result-2 returns)

@@ -1,0 +1,57 @@
+-- `is_final` makes the tests of the blocks and their epochs, and then asks for the chain.
+use borrow.Author.Needs.{needs}
+use Prim.Native.Nat.{ℕ}
+use mathlib.Core.List.{[]}
+use borrow.Author.Tests.{not-true, not-false}
+use Rattle.words.specs.Tests.{both}
+use Rattle.register.specs.declared.table.Register.{Register}
+use Rattle.register.specs.Tables.{trusted, parentOf, epochOf}
+use Rattle.register.specs.Changes.{whole}
+use Rattle.register.proofs.Searching.{chain-notarised-by}
+use Rattle.register.proofs.Testing.{finalises-by}
+use Rattle.register.proofs.steps.finalise.is_final.Statement.{statement}
+use Rattle.register.proofs.steps.finalise.is_final.Tie as tie
+
+parent-at-requires : tie.Need-parent-at-requires
+parent-at-requires c κs = search needs
+
+parent-at-requires-2 : tie.Need-parent-at-requires-2
+parent-at-requires-2 c κs = search needs
+
+are-consecutive-requires : tie.Need-are-consecutive-requires
+are-consecutive-requires c κs = search needs
+
+returns : tie.Need-returns
+unfolding parentOf epochOf both whole
+returns c =
+    let r : Register = whole (c .before .before .before .before .args .head) [] (c .before .before .before .before .args .parents .now) (c .before .before .before .before .args .epochs .now) [] [] (c .before .before .before .before .args .signers .now) (c .before .before .before .before .args .subjects .now) (c .before .before .before .before .args .places .now) [] in
+    let q : ℕ = c .before .before .before .before .args .q in
+    let b : ℕ = c .before .before .before .before .args .b in
+    rw (finalises-by r q b _ _ (c .before .before .before .parent-at .ensures) (c .before .before .parent-at2 .ensures), ← (c .before .are-consecutive .ensures), not-true (c .before .are-consecutive .result) (c .if1 .taken))
+
+cast-count : tie.Need-cast-count
+cast-count c = search needs
+
+is-notarised-requires : tie.Need-is-notarised-requires
+is-notarised-requires c κs = search needs
+
+returns-2 : tie.Need-returns-2
+unfolding trusted parentOf epochOf both whole
+returns-2 c =
+    let r : Register = whole (c .before .before .before .before .before .before .args .head) [] (c .before .before .before .before .before .before .args .parents .now) (c .before .before .before .before .before .before .args .epochs .now) [] [] (c .before .before .before .before .before .before .args .signers .now) (c .before .before .before .before .before .before .args .subjects .now) (c .before .before .before .before .before .before .args .places .now) [] in
+    let q : ℕ = c .before .before .before .before .before .before .args .q in
+    let b : ℕ = c .before .before .before .before .before .before .args .b in
+    rw (finalises-by r q b _ _ (c .before .before .before .before .before .parent-at .ensures) (c .before .before .before .before .parent-at2 .ensures), ← (c .before .before .before .are-consecutive .ensures), not-false (c .before .before .before .are-consecutive .result) (c .before .before .if1 .left), chain-notarised-by r q (c .before .before .before .before .before .before .pre .3) b)
+    (c .is-notarised .ensures)
+
+pub is-final-spec : {M : Type 1} → statement M
+is-final-spec =
+    tie.close
+    (tie.spec
+    parent-at-requires
+    parent-at-requires-2
+    are-consecutive-requires
+    returns
+    cast-count
+    is-notarised-requires
+    returns-2)

@@ -1,0 +1,40 @@
+-- Definitions that only the contracts of the code's own searches cite, in src/notary.rt and src/chain.rt: the rules never name them.
+-- proofs/Searching.antt says what they are in the rules' terms. Each takes the tables or functions that the code reads, and no register.
+use Prim.Native.Nat.{ℕ, _+_}
+use mathlib.Core.Bool.{Bool, not}
+use mathlib.Core.List.{List}
+use lib.Dec.{eqb, ltb}
+use lib.ListN.{length}
+use Rattle.words.specs.Tests.{choose, both, either, any, every}
+use Rattle.words.specs.Sums.{tally}
+use Rattle.words.specs.Digits.{fill}
+use Rattle.register.specs.Tables.{parentIn, epochIn}
+use Rattle.register.specs.Views.{signedIn, enough}
+use Rattle.register.specs.Chains.{chainBy}
+
+-- the set of the 32 offices of which a test holds, as a word
+unfoldable pub setOf : (ℕ → Bool) → ℕ
+setOf p = fill 2 32 (λ s. choose (p s) 1 0)
+
+-- block b is notarised in office q's view, by the tables
+unfoldable pub notarisedIn : (places signers subjects : List ℕ) → (count n q b : ℕ) → Bool
+notarisedIn places signers subjects count n q b =
+    either (eqb b 0) (enough (tally n (λ s. signedIn places signers subjects count q s b)) n)
+
+-- a block that can stand on a notarised chain: its epoch is greater than its parent's, and it is notarised
+unfoldable pub soundBy : (parent epoch : ℕ → ℕ) → (notarised : ℕ → Bool) → ℕ → Bool
+soundBy parent epoch notarised x = both (ltb (epoch (parent x)) (epoch x)) (notarised x)
+
+-- the same in office q's view, by the tables
+unfoldable pub soundIn : (places signers subjects parents epochs : List ℕ) → (count n last q : ℕ) → ℕ → Bool
+soundIn places signers subjects parents epochs count n last q =
+    soundBy (parentIn parents last) (epochIn epochs last) (notarisedIn places signers subjects count n q)
+
+-- the chain of block x is of sound blocks alone, and has more than so many
+unfoldable pub longerBy : (parent : ℕ → ℕ) → (sound : ℕ → Bool) → (beat : ℕ) → ℕ → Bool
+longerBy parent sound beat x = both (every sound (chainBy parent x)) (ltb beat (length (chainBy parent x)))
+
+-- the chain of block b is of sound blocks alone, and no block up to the last has a longer such chain
+unfoldable pub longestBy : (parent : ℕ → ℕ) → (sound : ℕ → Bool) → (last : ℕ) → ℕ → Bool
+longestBy parent sound last b =
+    both (every sound (chainBy parent b)) (not (any (last + 1) (longerBy parent sound (length (chainBy parent b)))))

@@ -1,0 +1,127 @@
+// Finalise: an office's final block becomes the parent of a block that meets the condition.
+ghost use mathlib.Core.Path.{_≡_};
+ghost use mathlib.Core.Bool.{true, not};
+ghost use mathlib.Core.List.{[], _∷_};
+ghost use Prim.Native.Nat.{_+_, _≤_};
+ghost use lib.Dec.{eqb};
+ghost use Rattle.words.specs.Tests.{conj};
+ghost use Rattle.words.specs.Refusals.{first};
+ghost use Rattle.register.specs.Tables.{trustedIn, parentIn, epochIn};
+ghost use Rattle.register.specs.Refusals.{finalises};
+ghost use Rattle.register.specs.Steps.{finalise};
+ghost use Rattle.register.specs.Changes.{whole, answer, finalised};
+use crate::chain;
+use crate::change::Change;
+use crate::change::Head;
+use crate::refusal;
+use crate::scan;
+use crate::sorts::Block;
+use crate::sorts::Office;
+
+// None of the blocks b, c and d is genesis, and their epochs are k + 2, k + 1 and k.
+fn are_consecutive<'a>(epochs: &'a [u16; 256], last: u8, b: u8, c: u8, d: u8) -> bool
+    ensures { λ r. ⌜ r ≡ conj (not (eqb b 0) ∷ not (eqb c 0) ∷ not (eqb d 0) ∷ eqb (epochIn (now (epochs .entry)) last c) (epochIn (now (epochs .entry)) last d + 1) ∷ eqb (epochIn (now (epochs .entry)) last b) (epochIn (now (epochs .entry)) last d + 2) ∷ []) ⌝ }
+{
+    let newest = scan::epoch_at(epochs, last, b) as u32;
+    let middle = scan::epoch_at(epochs, last, c) as u32;
+    let oldest = scan::epoch_at(epochs, last, d) as u32;
+    (b != 0) & ((c != 0) & ((d != 0) & ((middle == oldest + 1) & (newest == oldest + 2))))
+}
+
+// The condition for finalising, of a trusted office. The messages are read only where the epochs are as they should be.
+fn is_final<'a>(
+    head: Head,
+    signers: &'a [u8; 1024],
+    subjects: &'a [u8; 1024],
+    places: &'a [u64; 1024],
+    parents: &'a [u8; 256],
+    epochs: &'a [u16; 256],
+    q: u8,
+    b: u8,
+) -> bool
+    requires { ⌜ (head .n ≤ 32) × (head .count ≤ 1024) × (b ≤ head .last .0) × (trustedIn (head .n) (head .trust) q ≡ true) ⌝ }
+    ensures { λ r. ⌜ r ≡ finalises (whole head [] (now (parents .entry)) (now (epochs .entry)) [] [] (now (signers .entry)) (now (subjects .entry)) (now (places .entry)) []) q b ⌝ }
+{
+    let last = head.last.0;
+    let c = scan::parent_at(parents, last, b);
+    let d = scan::parent_at(parents, last, c);
+    if !are_consecutive(epochs, last, b, c, d) {
+        return false;
+    }
+    let count = head.count as usize;
+    chain::is_notarised(
+        head.n,
+        last,
+        count,
+        places,
+        signers,
+        subjects,
+        parents,
+        epochs,
+        q,
+        b,
+    )
+}
+
+// The refusal of a finalise step, 0 where there is none.
+fn finalise_refusal<'a>(
+    head: Head,
+    signers: &'a [u8; 1024],
+    subjects: &'a [u8; 1024],
+    places: &'a [u64; 1024],
+    parents: &'a [u8; 256],
+    epochs: &'a [u16; 256],
+    office: Office,
+    newest: Block,
+) -> u8
+    requires { ⌜ (head .n ≤ 32) × (head .count ≤ 1024) ⌝ }
+    ensures { λ r. ⌜ r ≡ first (finalise (whole head [] (now (parents .entry)) (now (epochs .entry)) [] [] (now (signers .entry)) (now (subjects .entry)) (now (places .entry)) []) office newest .tests) ⌝ }
+{
+    let q = office.0;
+    let b = newest.0;
+    if head.n <= q {
+        return refusal::NO_OFFICE;
+    }
+    if head.last.0 < b {
+        return refusal::NO_BLOCK;
+    }
+    if !scan::trusted_at(head.n, head.trust, q) {
+        return refusal::BARRED;
+    }
+    if !is_final(head, signers, subjects, places, parents, epochs, q, b) {
+        return refusal::NOT_FINAL;
+    }
+    0
+}
+
+// The change that a finalise step makes.
+pub fn finalise<'a>(
+    still: Change,
+    signers: &'a [u8; 1024],
+    subjects: &'a [u8; 1024],
+    places: &'a [u64; 1024],
+    parents: &'a [u8; 256],
+    epochs: &'a [u16; 256],
+    office: Office,
+    newest: Block,
+) -> Change
+    requires { ⌜ (still .head .n ≤ 32) × (still .head .count ≤ 1024) ⌝ }
+    ensures { λ r. ⌜ r ≡ answer still (first (finalise (whole (still .head) [] (now (parents .entry)) (now (epochs .entry)) [] [] (now (signers .entry)) (now (subjects .entry)) (now (places .entry)) []) office newest .tests)) (finalised still (office .0) (parentIn (now (parents .entry)) (still .head .last .0) (newest .0))) ⌝ }
+{
+    let head = still.head;
+    let refusal = finalise_refusal(
+        head,
+        signers,
+        subjects,
+        places,
+        parents,
+        epochs,
+        office,
+        newest,
+    );
+    if refusal != 0 {
+        return still.refused(refusal);
+    }
+    let b = scan::parent_at(parents, head.last.0, newest.0);
+    still.ended(office.0 as usize, b).headed(b as u16, head)
+}
