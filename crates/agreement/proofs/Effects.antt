@@ -13,11 +13,10 @@ use Rattle.words.specs.Tests.{choose}
 use Rattle.words.specs.Digits.{digit, raise}
 use Rattle.words.proofs.Digits.{digit-raise-other}
 use Rattle.register.specs.declared.sorts.Epoch.{Epoch}
-use Rattle.register.specs.declared.sorts.Block.{Block}
 use Rattle.register.specs.declared.table.Made.{Made}
 use Rattle.register.specs.declared.table.Sent.{Sent}
 use Rattle.register.specs.declared.table.Register.{Register}
-use Rattle.register.specs.Tables.{block, epoch, entry, madeOf, sentOf, trusted, named}
+use Rattle.register.specs.Tables.{epoch, entry, madeOf, sentOf, trusted, named}
 use Rattle.register.specs.Views.{inView, stage}
 use Rattle.register.specs.Effects.{withBlock, withNamed, withSent, withMoved, withActed, withFinal, withNextEpoch}
 use Rattle.register.proofs.Tables.{made-other, sent-other}

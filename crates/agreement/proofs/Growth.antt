@@ -9,7 +9,6 @@ use borrow.Author.Tests.{le-leb, leb-true}
 use lib.Dec.{eqb, ltb}
 use lib.ListN.{length}
 use Rattle.words.specs.Tests.{choose, both, every, member}
-use Rattle.words.specs.Digits.{digit}
 use Rattle.words.specs.Sums.{tally, unit, weigh}
 use Rattle.words.proofs.Tests.{both-left, both-right, both-make, either-cases, either-left, either-right, any-at, any-make, every-same}
 use Rattle.words.proofs.Sums.{weigh-more}

@@ -1,6 +1,6 @@
 -- The register of an opening that is not refused is safe.
 use Prim.Native.Nat.{ℕ, _*_, _<_, _≤_}
-use mathlib.Core.Path.{_≡_, ap, ap₂, subst, subst⁻¹}
+use mathlib.Core.Path.{_≡_, ap₂, subst, subst⁻¹}
 use mathlib.Core.Bool.{Bool, true, false, not}
 use mathlib.Core.List.{List}
 use native.Mathlib.Omega.{arith}
@@ -16,8 +16,7 @@ use Rattle.words.proofs.Tests.{both-right}
 use Rattle.words.proofs.Sums.{weigh-more}
 use Rattle.words.proofs.Digits.{digit-lt, digit-fill}
 use Rattle.words.proofs.Refusals.{numbered, cleared}
-use Rattle.register.specs.declared.sorts.Block.{Block}
-use Rattle.register.specs.Tables.{trustedIn, trusted, office, epoch, block, finalOf}
+use Rattle.register.specs.Tables.{trustedIn, trusted, finalOf}
 use Rattle.register.specs.Fitness.{between}
 use Rattle.register.specs.Opening.{untrusted, tooMany, openingTests, openingRefusal, blank, closed, fresh, opening}
 use Rattle.agreement.specs.Moments.{Run, opened}

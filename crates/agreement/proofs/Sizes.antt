@@ -8,11 +8,10 @@ use lib.ListN.{length, length-set}
 use Rattle.words.specs.Tests.{choose}
 use Rattle.words.specs.Digits.{raise}
 use Rattle.register.specs.declared.sorts.Epoch.{Epoch}
-use Rattle.register.specs.declared.sorts.Block.{Block}
 use Rattle.register.specs.declared.table.Made.{Made}
 use Rattle.register.specs.declared.table.Sent.{Sent}
 use Rattle.register.specs.declared.table.Register.{Register}
-use Rattle.register.specs.Tables.{block, epoch, entry, named}
+use Rattle.register.specs.Tables.{epoch, entry, named}
 use Rattle.register.specs.Effects.{withBlock, withNamed, withSent, withMoved, withActed, withFinal, withNextEpoch}
 use Rattle.register.proofs.Tables.{Sizes}
 

@@ -1,7 +1,7 @@
 -- Every step, accepted or refused, is lawful.
 use Prim.Native.Nat.{ℕ, suc, _+_, _<_, _≤_}
 use mathlib.Core.Path.{_≡_, refl, sym, ap, _∙_, subst⁻¹}
-use mathlib.Core.Bool.{Bool, true, false}
+use mathlib.Core.Bool.{true, false}
 use mathlib.Core.List.{List}
 use mathlib.Core.Logic.{_⊎_, inl, inr}
 use native.Mathlib.Omega.{arith}
@@ -26,14 +26,16 @@ use Rattle.register.specs.declared.step.Step.{Step}
 use Rattle.register.specs.declared.step.Step.the-variants as steps
 use Rattle.register.specs.declared.table.Sent.{Sent}
 use Rattle.register.specs.declared.table.Register.{Register}
-use Rattle.register.specs.Tables.{trusted, acted, block, made, madeOf, parentOf, epochOf, named, sentOf, signerOf, blockOf, finalOf, madeIn, isVote}
-use Rattle.register.specs.Views.{inInbox, inTransit, says}
+use Rattle.register.specs.Tables.{trusted, acted, block, made, parentOf, epochOf, named, sentOf, signerOf, blockOf, finalOf, madeIn, isVote}
+use Rattle.register.specs.Views.{says}
 use Rattle.register.specs.Chains.{longest}
-use Rattle.register.specs.Refusals.{noOffice, noBlock, noMessage, notInHand, offEpoch, notLongest, notFinal, historyIn, inHistory, forged, notSent, messagesFull}
+use Rattle.register.specs.Refusals.{noOffice, noBlock, noMessage, offEpoch, notLongest, notFinal, historyIn, inHistory, forged, messagesFull}
 use Rattle.register.specs.Effects.{withBlock, withNamed, withSent, withMoved, withActed, withFinal, withNextEpoch}
-use Rattle.register.specs.Steps.{Rule, propose, vote, register, finalise, deliver, badSend, draft, advance, ruleOf, refusal, judged, stepRule}
+use Rattle.register.specs.Steps.{propose, vote, register, finalise, deliver, badSend, draft, advance, ruleOf, stepRule}
 use Rattle.register.proofs.Tables.{Sizes, sent-new}
-use Rattle.register.proofs.Places.{Placed, placed}
+use Rattle.register.proofs.Places.{Placed}
+use Rattle.register.proofs.Accepted.{in-hand, deliver-placed, register-placed}
+use Rattle.register.proofs.Judging.{judged-has}
 use Rattle.register.proofs.Naming.{MadeOf, named-keeps, named-made}
 use Rattle.register.proofs.Chains.{parent-le}
 use Rattle.register.proofs.Finalising.{consecutive}
@@ -54,22 +56,6 @@ lawful-refl {r} safe =
       news = λ m l. inl l;
       finals = λ p t. inl refl;
     }
-
--- where nothing is refused, the rule's own tests refuse nothing
-passed : (fits : Bool) (rule : Rule) → refusal fits rule ≡ 0 → first (rule .tests) ≡ 0
-unfolding refusal first choose
-passed true rule h = h
-passed false rule h = absurd (omega arith)
-
--- a step is lawful where its effect is, as soon as none of its tests holds
-lawful-judged : (r : Register) (fits : Bool) (rule : Rule) → Safe r → (first (rule .tests) ≡ 0 → Lawful r (rule .effect))
-    → Lawful r (judged fits r rule .register)
-unfolding judged
-lawful-judged r fits rule safe effect = by (eqb (refusal fits rule) 0) refl
-  where
-    by : (t : Bool) → eqb (refusal fits rule) 0 ≡ t → Lawful r (choose t (rule .effect) r)
-    by true h = unfold choose in effect (passed fits rule (eqb-true _ 0 h))
-    by false h = unfold choose in lawful-refl safe
 
 -- an office that was ready and acts has then acted
 acts : (r : Register) (q : ℕ) → acted r q ≡ false → acted (withActed r q) q ≡ true
@@ -173,11 +159,6 @@ lawful-propose r office parent w safe h =
       room = leb-false _ _ (cleared 25 tests h);
     })
 
--- the message that an office takes from its inbox
-from-inbox : (r : Register) (q m : ℕ) → notInHand r q m ≡ false → Placed r q m 2
-unfolding notInHand inInbox
-from-inbox r q m h = placed r q m 1 (eqb-true _ 2 (not-false _ h))
-
 lawful-vote : (r : Register) (office : Office) (message : Message) → Safe r → first (vote r office message .tests) ≡ 0
     → Lawful r (vote r office message .effect)
 unfolding vote numbered choose noMessage offEpoch notLongest messagesFull withMoved made epochOf parentOf
@@ -190,7 +171,7 @@ lawful-vote r office message safe h =
     let now : eqb (epochOf r b) (r .epoch .0) ≡ true = not-false _ (either-false-right _ _ (cleared 16 tests h)) in
     lawful-signed r (withMoved r m q) office kinds.Vote b
     (record {
-      grows = grows-moved r m q 1 (omega arith) (from-inbox r q m (cleared 14 tests h));
+      grows = grows-moved r m q 1 (omega arith) (in-hand r q m (cleared 14 tests h));
       sizes = sizes-moved (safe .sizes) m q;
       epoch = refl;
       marks = refl;
@@ -219,18 +200,15 @@ lawful-moved r m q k safe low here =
 
 lawful-register : (r : Register) (office : Office) (message : Message) → Safe r → first (register r office message .tests) ≡ 0
     → Lawful r (register r office message .effect)
-unfolding register numbered choose
+unfolding register
 lawful-register r office message safe h =
-    let tests : List Refusal = register r office message .tests in
-    lawful-moved r (message .0) (office .0) 1 safe (omega arith) (from-inbox r (office .0) (message .0) (cleared 14 tests h))
+    lawful-moved r (message .0) (office .0) 1 safe (omega arith) (register-placed r office message h)
 
 lawful-deliver : (r : Register) (message : Message) (office : Office) → Safe r → first (deliver r message office .tests) ≡ 0
     → Lawful r (deliver r message office .effect)
-unfolding deliver numbered choose notSent inTransit
+unfolding deliver
 lawful-deliver r message office safe h =
-    let tests : List Refusal = deliver r message office .tests in
-    lawful-moved r (message .0) (office .0) 0 safe (omega arith)
-    (placed r (office .0) (message .0) 0 (eqb-true _ 1 (not-false _ (cleared 22 tests h))))
+    lawful-moved r (message .0) (office .0) 0 safe (omega arith) (deliver-placed r message office h)
 
 -- one office's final block changes, and the others' stay
 finals-after : (r : Register) (q c p : ℕ) → q < length (r .finals) → Finalised (withFinal r q c) q c
@@ -330,11 +308,11 @@ lawful-advance r safe =
 -- every step
 pub lawful : (r : Register) (step : Step) → Safe r → Lawful r (after r step)
 unfolding after stepRule ruleOf
-lawful r (steps.Propose office parent w) safe = lawful-judged r _ _ safe (lawful-propose r office parent w safe)
-lawful r (steps.Vote office message) safe = lawful-judged r _ _ safe (lawful-vote r office message safe)
-lawful r (steps.Register office message) safe = lawful-judged r _ _ safe (lawful-register r office message safe)
-lawful r (steps.Finalise office newest) safe = lawful-judged r _ _ safe (lawful-finalise r office newest safe)
-lawful r (steps.Deliver message office) safe = lawful-judged r _ _ safe (lawful-deliver r message office safe)
-lawful r (steps.BadSend sender kind signer about) safe = lawful-judged r _ _ safe (lawful-bad-send r sender kind signer about safe)
-lawful r (steps.Draft parent epoch w) safe = lawful-judged r _ _ safe (λ h. lawful-draft r parent epoch w safe)
-lawful r steps.Advance safe = lawful-judged r _ _ safe (λ h. lawful-advance r safe)
+lawful r (steps.Propose office parent w) safe = judged-has (Lawful r) r _ _ (lawful-refl safe) (lawful-propose r office parent w safe)
+lawful r (steps.Vote office message) safe = judged-has (Lawful r) r _ _ (lawful-refl safe) (lawful-vote r office message safe)
+lawful r (steps.Register office message) safe = judged-has (Lawful r) r _ _ (lawful-refl safe) (lawful-register r office message safe)
+lawful r (steps.Finalise office newest) safe = judged-has (Lawful r) r _ _ (lawful-refl safe) (lawful-finalise r office newest safe)
+lawful r (steps.Deliver message office) safe = judged-has (Lawful r) r _ _ (lawful-refl safe) (lawful-deliver r message office safe)
+lawful r (steps.BadSend sender kind signer about) safe = judged-has (Lawful r) r _ _ (lawful-refl safe) (lawful-bad-send r sender kind signer about safe)
+lawful r (steps.Draft parent epoch w) safe = judged-has (Lawful r) r _ _ (lawful-refl safe) (λ h. lawful-draft r parent epoch w safe)
+lawful r steps.Advance safe = judged-has (Lawful r) r _ _ (lawful-refl safe) (λ h. lawful-advance r safe)

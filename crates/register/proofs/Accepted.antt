@@ -1,23 +1,24 @@
 -- What the tests of an accepted step tell.
-use Prim.Native.Nat.{ℕ, suc, _+_, _<_, _≤_}
+use Prim.Native.Nat.{ℕ, _+_, _<_, _≤_}
 use mathlib.Core.Path.{_≡_}
 use mathlib.Core.Bool.{true, false}
 use mathlib.Core.List.{List}
 use native.Mathlib.Omega.{arith}
-use borrow.Author.Tests.{eqb-true, ltb-true, not-false}
-use lib.ListN.{getD}
+use borrow.Author.Tests.{eqb-true, ltb-true, eqb-false, ltb-false, leb-false, not-false}
 use Rattle.words.specs.Tests.{choose}
 use Rattle.words.specs.Digits.{digit}
-use Rattle.words.specs.Refusals.{Refusal, first}
+use Rattle.words.specs.Refusals.{Refusal, first, until}
 use Rattle.words.proofs.Tests.{both-left}
+use Rattle.words.proofs.Digits.{digit-lt}
 use Rattle.words.proofs.Refusals.{numbered, cleared}
 use Rattle.register.specs.declared.sorts.Office.{Office}
+use Rattle.register.specs.declared.sorts.Block.{Block}
 use Rattle.register.specs.declared.sorts.Message.{Message}
 use Rattle.register.specs.declared.table.Register.{Register}
-use Rattle.register.specs.Tables.{trustedIn, trusted}
+use Rattle.register.specs.Tables.{trustedIn, trusted, acted}
 use Rattle.register.specs.Views.{inTransit, inInbox}
-use Rattle.register.specs.Refusals.{notInHand, notSent}
-use Rattle.register.specs.Steps.{deliver, register}
+use Rattle.register.specs.Refusals.{noOffice, noBlock, noMessage, barred, notInHand, notSent, messagesFull}
+use Rattle.register.specs.Steps.{propose, vote, deliver, register}
 use Rattle.register.specs.Changes.{Movable}
 use Rattle.register.proofs.Places.{Placed, placed}
 
@@ -51,3 +52,48 @@ register-placed r office message h =
 pub movable : (r : Register) (q m k : ℕ) → r .n ≤ 32 → k < 3 → Placed r q m k → Movable (r .places) (r .count) q m
 movable r q m k few low p =
     record { office = omega (arith, trusted-below r q (p .trusted)); sent = p .sent; room = omega (arith, p .digit) }
+
+-- an office that has not acted is ready: its bit is 0
+ready : (r : Register) (q : ℕ) → acted r q ≡ false → digit 2 (r .acted) q + 1 < 2
+unfolding acted
+ready r q h = omega (arith, digit-lt 2 (r .acted) q (omega arith), eqb-false (digit 2 (r .acted) q) 1 h)
+
+module _ (r : Register) (office : Office) (message : Message) where
+  -- a vote that passes the tests up to 12: the message has been sent, and the office is trusted
+  pub vote-known : first (until 14 (vote r office message .tests)) ≡ 0 → (message .0 < r .count) × (trusted r (office .0) ≡ true)
+  unfolding vote until numbered choose noMessage barred
+  vote-known h =
+      let tests : List Refusal = until 14 (vote r office message .tests) in
+      (leb-false (r .count) (message .0) (cleared 7 tests h), not-false _ (cleared 9 tests h))
+
+  -- a proposal that is voted on is in the inbox
+  pub vote-placed : first (vote r office message .tests) ≡ 0 → Placed r (office .0) (message .0) 2
+  unfolding vote numbered choose
+  vote-placed h = in-hand r (office .0) (message .0) (cleared 14 (vote r office message .tests) h)
+
+  -- the office that votes is ready
+  pub vote-ready : first (vote r office message .tests) ≡ 0 → digit 2 (r .acted) (office .0) + 1 < 2
+  unfolding vote numbered choose
+  vote-ready h = ready r (office .0) (cleared 11 (vote r office message .tests) h)
+
+  -- there is room for the vote
+  pub vote-room : first (vote r office message .tests) ≡ 0 → r .count < 1024
+  unfolding vote numbered choose messagesFull
+  vote-room h = leb-false 1024 (r .count) (cleared 25 (vote r office message .tests) h)
+
+module _ (r : Register) (office : Office) (parent : Block) (payload : ℕ) where
+  -- a proposal that passes the tests up to 13: the parent has been made, and the office is trusted
+  pub propose-known : first (until 19 (propose r office parent payload .tests)) ≡ 0
+      → (parent .0 ≤ r .last .0) × (trusted r (office .0) ≡ true)
+  unfolding propose until numbered choose noBlock barred
+  propose-known h =
+      let tests : List Refusal = until 19 (propose r office parent payload .tests) in
+      (ltb-false (r .last .0) (parent .0) (cleared 6 tests h), not-false _ (cleared 9 tests h))
+
+  -- the office that proposes is there, and is ready
+  pub propose-ready : first (until 25 (propose r office parent payload .tests)) ≡ 0
+      → (office .0 < r .n) × (digit 2 (r .acted) (office .0) + 1 < 2)
+  unfolding propose until numbered choose noOffice
+  propose-ready h =
+      let tests : List Refusal = until 25 (propose r office parent payload .tests) in
+      (leb-false (r .n) (office .0) (cleared 5 tests h), ready r (office .0) (cleared 11 tests h))

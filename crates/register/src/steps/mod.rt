@@ -1,4 +1,5 @@
 // The eight steps, each as the change that it makes.
+mod act;
 mod advance;
 mod bad_send;
 mod deliver;
@@ -6,4 +7,6 @@ mod draft;
 mod enter;
 mod finalise;
 mod place;
+mod propose;
 mod sent;
+mod vote;

@@ -1,0 +1,50 @@
+-- `cast`: the vote is sent, the proposal moves on, and the office has acted.
+use borrow.Author.Needs.{needs}
+use Rattle.register.specs.Changes.{moving, sentHead, sending, voted}
+use Rattle.register.proofs.steps.vote.cast.Statement.{statement}
+use Rattle.register.proofs.steps.vote.cast.Tie as tie
+
+sent-place-requires : tie.Need-sent-place-requires
+sent-place-requires c κs = search needs
+
+element-copy-out-sent : tie.Need-element-copy-out-sent
+element-copy-out-sent c = search needs
+
+sent-requires : tie.Need-sent-requires
+sent-requires c κs = search needs
+
+mul-raised : tie.Need-mul-raised
+mul-raised c = search needs
+
+element-copy-out-raised : tie.Need-element-copy-out-raised
+element-copy-out-raised c = search needs
+
+raised-requires : tie.Need-raised-requires
+raised-requires c κs = search needs
+
+moved-requires : tie.Need-moved-requires
+moved-requires c κs = search needs
+
+acted-requires : tie.Need-acted-requires
+unfolding moving sending sentHead
+acted-requires c κs =
+    let known = c .before .before .before .before .before .before .before .pre in
+    (known .3 .office, rw (c .moved .ensures, c .before .before .before .sent .ensures) (known .2))
+
+returns : tie.Need-returns
+unfolding voted moving sending
+returns c = rw (c .acted .ensures, c .before .moved .ensures, c .before .before .before .before .sent .ensures, c .before .before .raised .ensures, c .before .before .before .before .before .before .sent-place .ensures)
+
+pub cast-spec : {M : Type 1} → statement M
+cast-spec =
+    tie.close
+    (tie.spec
+    sent-place-requires
+    element-copy-out-sent
+    sent-requires
+    mul-raised
+    element-copy-out-raised
+    raised-requires
+    moved-requires
+    acted-requires
+    returns)
