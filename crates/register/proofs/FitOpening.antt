@@ -52,7 +52,7 @@ unfolding OpeningsAreFit
 openings-fit n trust schedule h = ranges-fit (ranges-opening n trust schedule h)
 
 -- where the whole register is fit, so are its single numbers, and the two rules are one
-quick-same : (r : Register) (step : Step) → fit r ≡ true → stepRule r step ≡ quickRule r step
+pub quick-same : (r : Register) (step : Step) → fit r ≡ true → stepRule r step ≡ quickRule r step
 unfolding fit stepRule quickRule
 quick-same r step h = ap (λ (t : Bool). judged t r (ruleOf r step)) (h ∙ sym (both-left _ _ h))
 

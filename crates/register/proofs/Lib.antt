@@ -17,3 +17,6 @@ pub mod Judging
 pub mod FitSteps
 pub mod FitOpening
 pub mod Searching
+pub mod Writing
+pub mod Judgements
+pub mod Running

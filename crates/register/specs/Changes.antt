@@ -2,14 +2,17 @@
 use Prim.Native.Nat.{ℕ, _+_, _<_}
 use mathlib.Core.Bool.{Bool, true, false}
 use mathlib.Core.List.{List}
+use mathlib.Core.Path.{_≡_}
 use lib.Dec.{eqb, leb}
 use lib.ListN.{getD, set}
 use Rattle.words.specs.Tests.{choose}
 use Rattle.words.specs.Digits.{digit, raise}
 use Rattle.register.specs.declared.change.Head.{Head}
 use Rattle.register.specs.declared.change.Change.{Change}
+use Rattle.register.specs.declared.step.Step.{Step}
 use Rattle.register.specs.declared.table.Register.{Register}
 use Rattle.register.specs.declared.table.Stepped.{Stepped}
+use Rattle.register.specs.Steps.{quickRule}
 
 -- the register of those single numbers and tables
 unfoldable pub whole : Head → (leaders parents epochs payloads : List ℕ) → (votes : List Bool)
@@ -233,3 +236,15 @@ voted c places m q b w =
 unfoldable pub proposed : Change → (b p e x : ℕ) → (q : ℕ) → (w : ℕ) → Change
 proposed c b p e x q w =
     heading (sending (naming c b p e x) false q b w) (c .head .count) (actedHead (sentHead (naming c b p e x .head)) q)
+
+-- every entry of a change is within its table
+pub record Within (c : Change) : Type 0 where
+  pub block : c .block .at < 256
+  pub message : c .message .at < 1024
+  pub place : c .place .at < 1024
+  pub ending : c .ending .at < 32
+
+-- the change that a step makes of a register: what is written and answered is the rule's
+pub record Judged (r : Register) (step : Step) (c : Change) : Type 0 where
+  pub answer : stepped r c ≡ quickRule r step
+  pub within : Within c

@@ -1,4 +1,4 @@
--- The rules of the register. Read in this order.
+-- The rules of the register. Read in this order; Searches and Changes are for contracts inside the crate alone.
 pub mod Tables
 pub mod Views
 pub mod Chains
@@ -7,6 +7,7 @@ pub mod Refusals
 pub mod Opening
 pub mod Effects
 pub mod Steps
+pub mod Runs
 pub mod Promises
-pub mod Changes
 pub mod Searches
+pub mod Changes

@@ -22,7 +22,7 @@ pub fn between(low: usize, high: usize, k: usize) -> bool
 }
 
 // The single numbers are in their ranges.
-fn counts_fit(n: u8, length: u16, epoch: Epoch, count: u16) -> bool
+pub fn counts_fit(n: u8, length: u16, epoch: Epoch, count: u16) -> bool
     ensures { λ r. ⌜ r ≡ conj (between 1 32 n ∷ between 1 256 length ∷ between 1 length (epoch .0) ∷ leb count 1024 ∷ []) ⌝ }
 {
     between(1, 32, n as usize)

@@ -62,3 +62,10 @@ pub struct Stepped {
     pub refusal: u8,
     pub value: u16,
 }
+
+// What a batch of steps gives: the register after them, and the refusal and the value of each at its place.
+pub struct Ran {
+    pub register: Register,
+    pub refusals: [u8; 64],
+    pub values: [u16; 64],
+}

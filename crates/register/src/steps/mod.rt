@@ -6,6 +6,7 @@ mod deliver;
 mod draft;
 mod enter;
 mod finalise;
+pub mod judge;
 mod place;
 mod propose;
 mod sent;

@@ -1,0 +1,140 @@
+// Runs the worked case of the rules through the step methods and prints its report; then tries registers that are unfit in one way each.
+use libc::STDOUT_FILENO;
+use register::Block;
+use register::Message;
+use register::Office;
+use register::Register;
+use register::Stepped;
+
+fn print(text: &[u8]) {
+    io::write_all(STDOUT_FILENO, text);
+}
+
+fn number(n: u64) {
+    io::print_decimal(STDOUT_FILENO, n);
+}
+
+// Prints a step's line, its place, refusal and value, and hands the register on.
+fn line(place: u64, stepped: Stepped) -> Register {
+    number(place);
+    print(b" ");
+    number(stepped.refusal as u64);
+    print(b" ");
+    number(stepped.value as u64);
+    print(b"\n");
+    stepped.register
+}
+
+// Prints an office's line: its number, its final block and the length of that block's chain.
+fn office_line(register: Register, q: u8) {
+    let last = register.final_block(Office(q));
+    print(b"office ");
+    number(q as u64);
+    print(b" ");
+    number(last.0 as u64);
+    print(b" ");
+    number(register.chain_length(last) as u64);
+    print(b"\n");
+}
+
+fn first_epoch(register: Register) -> Register {
+    let r = line(1, register.propose(Office(0), Block(0), 7));
+    let r = line(2, r.deliver(Message(0), Office(1)));
+    let r = line(3, r.vote(Office(1), Message(0)));
+    let r = line(4, r.finalise(Office(1), Block(1)));
+    line(5, r.advance())
+}
+
+fn second_epoch(register: Register) -> Register {
+    let r = line(6, register.propose(Office(0), Block(1), 8));
+    let r = line(7, r.register(Office(0), Message(1)));
+    let r = line(8, r.deliver(Message(1), Office(0)));
+    let r = line(9, r.register(Office(0), Message(1)));
+    let r = line(10, r.propose(Office(0), Block(1), 8));
+    let r = line(11, r.deliver(Message(2), Office(1)));
+    let r = line(12, r.vote(Office(1), Message(2)));
+    let r = line(13, r.deliver(Message(3), Office(0)));
+    let r = line(14, r.register(Office(0), Message(3)));
+    line(15, r.advance())
+}
+
+fn third_epoch(register: Register) -> Register {
+    let r = line(16, register.propose(Office(0), Block(2), 9));
+    let r = line(17, r.deliver(Message(4), Office(1)));
+    let r = line(18, r.vote(Office(1), Message(4)));
+    line(19, r.finalise(Office(1), Block(3)))
+}
+
+// Prints what an advance of that register is refused with.
+fn unfit(name: &[u8], register: Register) {
+    print(name);
+    print(b" ");
+    number(register.advance().refusal as u64);
+    print(b"\n");
+}
+
+fn unfit_counts(register: Register) {
+    let mut r = register;
+    r.n = 0;
+    unfit(b"no offices", r);
+    r.n = 33;
+    unfit(b"33 offices", r);
+    r.n = 3;
+    r.length = 0;
+    unfit(b"no epochs", r);
+    r.length = 257;
+    unfit(b"257 epochs", r);
+    r.length = 3;
+    let before = register::Epoch(0);
+    r.epoch = before;
+    unfit(b"epoch 0", r);
+    let after = register::Epoch(4);
+    r.epoch = after;
+    unfit(b"epoch past the schedule", r);
+}
+
+fn unfit_tables(register: Register) {
+    let mut r = register;
+    r.leaders[2] = 3;
+    unfit(b"leader past the offices", r);
+    r.leaders[2] = 0;
+    let one = Block(1);
+    r.last = one;
+    r.parents[1] = 1;
+    unfit(b"parent not smaller", r);
+    r.parents[1] = 0;
+    r.epochs[1] = 512;
+    unfit(b"block of epoch 512", r);
+    r.epochs[1] = 1;
+    r.finals[2] = 2;
+    unfit(b"final block past the last", r);
+}
+
+fn unfit_messages(register: Register) {
+    let mut r = register;
+    r.count = 1;
+    unfit(b"message on genesis", r);
+    r.subjects[0] = 1;
+    unfit(b"message past the last block", r);
+    let one = Block(1);
+    r.last = one;
+    r.epochs[1] = 1;
+    r.signers[0] = 3;
+    unfit(b"signer past the offices", r);
+    r.signers[0] = 2;
+    unfit(b"all in range", r);
+    r.count = 1025;
+    unfit(b"1025 messages", r);
+}
+
+fn main() {
+    let opened = Register::open(3, 7, b"\x00\x00\x00");
+    let fresh = opened.register;
+    let r = third_epoch(second_epoch(first_epoch(fresh)));
+    office_line(r, 0);
+    office_line(r, 1);
+    office_line(r, 2);
+    unfit_counts(fresh);
+    unfit_tables(fresh);
+    unfit_messages(fresh);
+}
