@@ -1,9 +1,7 @@
 -- Laws of changes: what is written to the register.
 use Prim.Native.Nat.{ℕ}
-use mathlib.Core.Path.{_≡_, refl, ap, _∙_}
-use mathlib.Core.Bool.{Bool, true, false}
+use mathlib.Core.Path.{_≡_}
 use borrow.Author.Tests.{eq-eqb, ne-eqb}
-use lib.Dec.{eqb}
 use Rattle.words.specs.Tests.{choose}
 use Rattle.register.specs.declared.change.Change.{Change}
 use Rattle.register.specs.Changes.{refusing, answer}

@@ -27,80 +27,12 @@ use Rattle.register.specs.Views.{stage, inTransit, inInbox, inView, says
 use Rattle.register.specs.Chains.{chain, chainLength, valid, chainNotarised, longer, longest}
 use Rattle.register.specs.Effects.{sentStage}
 use Rattle.register.specs.Fitness.{countsFit}
-use Rattle.register.specs.Refusals.{
-  noOffice,
-  noBlock,
-  noMessage,
-  barred,
-  leads,
-  notInHand,
-  votes,
-  offEpoch,
-  entered,
-  notLongest,
-  finalises,
-  notFinal,
-  inHistory,
-  forged,
-  notSent,
-  spent,
-  blocksFull,
-  messagesFull,
-}
-use Rattle.register.specs.Steps.{
-  Rule,
-  refusal,
-  propose,
-  vote,
-  register,
-  finalise,
-  deliver,
-  badSend,
-  draft,
-  advance,
-  ruleOf,
-  quickRule,
-  judged,
-}
-use Rattle.register.specs.Changes.{
-  whole,
-  headOf,
-  stillOf,
-  written,
-  stepped,
-  refusing,
-  answer,
-  heading,
-  lastHead,
-  nextHead,
-  moving,
-  movedOn,
-  ending,
-  finalised,
-  drafted,
-  naming,
-  making,
-  sending,
-  voted,
-  proposed,
-  Within,
-  Judged,
-}
+use Rattle.register.specs.Refusals.{noOffice, noBlock, noMessage, barred, leads, notInHand, votes, offEpoch, entered, notLongest, finalises, notFinal, inHistory, forged, notSent, spent, blocksFull, messagesFull}
+use Rattle.register.specs.Steps.{refusal, propose, vote, register, finalise, deliver, badSend, draft, advance, ruleOf, quickRule, judged}
+use Rattle.register.specs.Changes.{whole, headOf, stillOf, written, stepped, refusing, answer, heading, lastHead, nextHead, moving, movedOn, ending, finalised, drafted, naming, making, sending, voted, proposed, Within, Judged}
 use Rattle.register.proofs.FitnessLaws.{Counts, counts-hold}
-use Rattle.register.proofs.Places.{Placed}
 use Rattle.register.proofs.Accepted.{deliver-placed, register-placed}
-use Rattle.register.proofs.Writing.{
-  writes-nothing,
-  writes-moved,
-  writes-final,
-  writes-epoch,
-  writes-named,
-  writes-sent,
-  writes-vote,
-  writes-propose,
-  next-block,
-  steps-by,
-}
+use Rattle.register.proofs.Writing.{writes-nothing, writes-moved, writes-final, writes-epoch, writes-named, writes-sent, writes-vote, writes-propose, next-block, steps-by}
 
 -- the single numbers of a register that passed their test
 pub counts : (r : Register) → countsFit r ≡ true → Counts (r .n) (r .length) (r .epoch .0) (r .count)

@@ -10,18 +10,7 @@ use Rattle.words.specs.Tests.{both, either, conj}
 use Rattle.words.proofs.Tests.{clash, both-left, both-right, both-make, all-at, all-make}
 use Rattle.register.specs.declared.table.Register.{Register}
 use Rattle.register.specs.Tables.{trusted, sentOf, finalOf}
-use Rattle.register.specs.Fitness.{
-  between,
-  countsFit,
-  leadersFit,
-  blockFits,
-  blocksFit,
-  messageFits,
-  messagesFit,
-  finalsFit,
-  tablesFit,
-  fit,
-}
+use Rattle.register.specs.Fitness.{between, countsFit, leadersFit, blockFits, blocksFit, messageFits, messagesFit, finalsFit, tablesFit, fit}
 use Rattle.register.proofs.FitnessLaws.{between-true, Counts, counts-hold}
 
 -- every number of the register is in its range, and the table of the messages' blocks has its size

@@ -17,40 +17,9 @@ use Rattle.register.specs.declared.change.Change.{Change}
 use Rattle.register.specs.declared.table.Sent.{Sent}
 use Rattle.register.specs.declared.table.Register.{Register}
 use Rattle.register.specs.Tables.{block, epoch, entry, isVote, named, trusted}
-use Rattle.register.specs.Effects.{
-  withBlock,
-  withNamed,
-  sentStage,
-  withSent,
-  withMoved,
-  withActed,
-  withFinal,
-  withNextEpoch,
-}
+use Rattle.register.specs.Effects.{withBlock, withNamed, sentStage, withSent, withMoved, withActed, withFinal, withNextEpoch}
 use Rattle.register.specs.Steps.{Rule, refusal, judged}
-use Rattle.register.specs.Changes.{
-  headOf,
-  stillOf,
-  written,
-  stepped,
-  refusing,
-  answer,
-  heading,
-  lastHead,
-  sentHead,
-  actedHead,
-  nextHead,
-  moving,
-  movedOn,
-  ending,
-  making,
-  naming,
-  sending,
-  drafted,
-  finalised,
-  voted,
-  proposed,
-}
+use Rattle.register.specs.Changes.{headOf, stillOf, written, stepped, refusing, answer, heading, lastHead, sentHead, actedHead, nextHead, moving, movedOn, ending, making, naming, sending, drafted, finalised, voted, proposed}
 use Rattle.register.proofs.Scans.{named-most}
 
 -- A change, by what it makes of each column.

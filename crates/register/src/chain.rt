@@ -11,7 +11,7 @@ use crate::notary::sound_flags;
 use crate::scan::parent_at;
 
 // The length of block b's chain, genesis not counted.
-pub fn length_of<'a>(parents: &'a [u8; 256], last: u8, b: u8) -> u8
+pub(crate) fn length_of<'a>(parents: &'a [u8; 256], last: u8, b: u8) -> u8
     ensures { λ r. ⌜ r ≡ length (chainBy (parentIn (now (parents .entry)) last) b) ⌝ }
 {
     let mut climbed = 0;
@@ -24,7 +24,7 @@ pub fn length_of<'a>(parents: &'a [u8; 256], last: u8, b: u8) -> u8
 }
 
 // Every block of block b's chain is sound.
-pub fn is_sound<'a>(parents: &'a [u8; 256], sound: &'a [bool; 256], last: u8, b: u8) -> bool
+pub(crate) fn is_sound<'a>(parents: &'a [u8; 256], sound: &'a [bool; 256], last: u8, b: u8) -> bool
     ensures { λ r. ⌜ r ≡ every (λ y. getD (now (sound .entry)) y false) (chainBy (parentIn (now (parents .entry)) last) b) ⌝ }
 {
     let mut at = b;
@@ -39,7 +39,12 @@ pub fn is_sound<'a>(parents: &'a [u8; 256], sound: &'a [bool; 256], last: u8, b:
 
 // Some block's chain is of sound blocks alone and longer than the length to beat. A chain is no longer than its last block's number: so
 // the walk starts past the length to beat, and a climb ends where what is left of it cannot be enough.
-pub fn has_longer<'a>(parents: &'a [u8; 256], sound: &'a [bool; 256], last: u8, beat: u8) -> bool
+pub(crate) fn has_longer<'a>(
+    parents: &'a [u8; 256],
+    sound: &'a [bool; 256],
+    last: u8,
+    beat: u8,
+) -> bool
     ensures { λ r. ⌜ r ≡ any (last + 1) (longerBy (parentIn (now (parents .entry)) last) (λ y. getD (now (sound .entry)) y false) beat) ⌝ }
 {
     let mut found = false;
@@ -64,7 +69,7 @@ pub fn has_longer<'a>(parents: &'a [u8; 256], sound: &'a [bool; 256], last: u8, 
 }
 
 // The chain of block b is notarised in office q's view.
-pub fn is_notarised<'a>(
+pub(crate) fn is_notarised<'a>(
     n: u8,
     last: u8,
     count: usize,
@@ -94,7 +99,7 @@ pub fn is_notarised<'a>(
 }
 
 // The chain of block b is notarised in office q's view, and no notarised chain of that view is longer.
-pub fn is_longest<'a>(
+pub(crate) fn is_longest<'a>(
     n: u8,
     last: u8,
     count: usize,

@@ -58,7 +58,7 @@ pub struct Change {
 
 impl Change {
     // A refused step: nothing but the answer.
-    pub fn refused(mut self, refusal: u8) -> Change
+    pub(crate) fn refused(mut self, refusal: u8) -> Change
         ensures { λ r. ⌜ r ≡ refusing self refusal ⌝ }
     {
         self.refusal = refusal;
@@ -66,7 +66,7 @@ impl Change {
     }
 
     // The word of message m's places becomes that word.
-    pub fn moved(mut self, m: usize, word: u64) -> Change
+    pub(crate) fn moved(mut self, m: usize, word: u64) -> Change
         ensures { λ r. ⌜ r ≡ moving self m word ⌝ }
     {
         let place = PlaceEntry { at: m, place: word };
@@ -75,7 +75,7 @@ impl Change {
     }
 
     // Office q's final block becomes b.
-    pub fn ended(mut self, q: usize, b: u8) -> Change
+    pub(crate) fn ended(mut self, q: usize, b: u8) -> Change
         ensures { λ r. ⌜ r ≡ ending self q b ⌝ }
     {
         let entry = FinalEntry { at: q, block: b };
@@ -84,7 +84,7 @@ impl Change {
     }
 
     // Block b is named: it is made, of that parent, epoch and payload, where it is the next.
-    pub fn named(mut self, b: u16, p: u8, e: u16, w: u16) -> Change
+    pub(crate) fn named(mut self, b: u16, p: u8, e: u16, w: u16) -> Change
         requires { ⌜ b ≤ 255 ⌝ }
         ensures { λ r. ⌜ r ≡ naming self b p e w ⌝ }
     {
@@ -106,7 +106,7 @@ impl Change {
     }
 
     // A message is sent; it gets the next number.
-    pub fn sent(mut self, vote: bool, signer: u8, subject: u8, word: u64) -> Change
+    pub(crate) fn sent(mut self, vote: bool, signer: u8, subject: u8, word: u64) -> Change
         requires { ⌜ self .head .count < 1024 ⌝ }
         ensures { λ r. ⌜ r ≡ sending self vote signer subject word ⌝ }
     {
@@ -130,7 +130,7 @@ impl Change {
     }
 
     // Another value and other single numbers.
-    pub fn headed(mut self, value: u16, head: Head) -> Change
+    pub(crate) fn headed(mut self, value: u16, head: Head) -> Change
         ensures { λ r. ⌜ r ≡ heading self value head ⌝ }
     {
         self.value = value;

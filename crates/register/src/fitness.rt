@@ -15,14 +15,14 @@ use crate::sorts::Office;
 use crate::table::Register;
 
 // low ≤ k ≤ high
-pub fn between(low: usize, high: usize, k: usize) -> bool
+pub(crate) fn between(low: usize, high: usize, k: usize) -> bool
     ensures { λ r. ⌜ r ≡ between low high k ⌝ }
 {
     (low <= k) & (k <= high)
 }
 
 // The single numbers are in their ranges.
-pub fn counts_fit(n: u8, length: u16, epoch: Epoch, count: u16) -> bool
+pub(crate) fn counts_fit(n: u8, length: u16, epoch: Epoch, count: u16) -> bool
     ensures { λ r. ⌜ r ≡ conj (between 1 32 n ∷ between 1 256 length ∷ between 1 length (epoch .0) ∷ leb count 1024 ∷ []) ⌝ }
 {
     between(1, 32, n as usize)

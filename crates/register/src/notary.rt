@@ -38,7 +38,7 @@ fn index(b: u8) -> usize
 }
 
 // Each block's signers in office q's view, as a set of offices. A signer from 32 up is no office, and is left out.
-pub fn gather<'a>(
+pub(crate) fn gather<'a>(
     places: &'a [u64; 1024],
     signers: &'a [u8; 1024],
     subjects: &'a [u8; 1024],
@@ -66,7 +66,7 @@ fn is_enough(set: u32, n: u8) -> bool
 }
 
 // For each block made, whether its epoch is greater than its parent's and its signers are enough.
-pub fn sound<'a>(
+pub(crate) fn sound<'a>(
     sets: &'a [u32; 256],
     parents: &'a [u8; 256],
     epochs: &'a [u16; 256],
@@ -88,7 +88,7 @@ pub fn sound<'a>(
 }
 
 // For each block made, whether it is sound in office q's view.
-pub fn sound_flags<'a>(
+pub(crate) fn sound_flags<'a>(
     n: u8,
     last: u8,
     count: usize,

@@ -17,7 +17,10 @@ use crate::table::Ran;
 use crate::table::Register;
 use crate::table::Stepped;
 
-// How many steps a batch holds at most.
+// Steps that are run in one call.
+pub type Batch = [Step; 64];
+
+// How many steps a batch holds.
 pub const BATCH: usize = 64;
 
 // The number of steps, or that of a batch where it is more.
@@ -30,7 +33,7 @@ fn in_batch(count: usize) -> usize
 impl Register {
     // Runs the first steps of a batch without the test of the register's tables. The register is changed in place, so that a step
     // costs no copy of it.
-    pub fn run(mut self, steps: [Step; 64], count: usize) -> Ran
+    pub fn run(mut self, steps: Batch, count: usize) -> Ran
         ensures { λ r. ⌜ r ≡ ranFirst self steps (min count 64) ⌝ }
     {
         let limit = in_batch(count);

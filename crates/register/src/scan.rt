@@ -15,7 +15,7 @@ const CHUNK: usize = 64;
 const VIEW: u8 = 3;
 
 // Office q is there and its bit in the trust word is 1.
-pub fn trusted_at(n: u8, trust: u32, q: u8) -> bool
+pub(crate) fn trusted_at(n: u8, trust: u32, q: u8) -> bool
     ensures { λ r. ⌜ r ≡ trustedIn n trust q ⌝ }
 {
     (q < n) & words::has(trust, q)
@@ -29,7 +29,7 @@ fn is_made(last: u8, b: u8) -> bool
 }
 
 // The parent of block b; genesis where b has none, or where its entry names no smaller block.
-pub fn parent_at<'a>(parents: &'a [u8; 256], last: u8, b: u8) -> u8
+pub(crate) fn parent_at<'a>(parents: &'a [u8; 256], last: u8, b: u8) -> u8
     ensures { λ r. ⌜ r ≡ parentIn (now (parents .entry)) last b ⌝ }
 {
     let parent = parents[b as usize];
@@ -40,7 +40,7 @@ pub fn parent_at<'a>(parents: &'a [u8; 256], last: u8, b: u8) -> u8
 }
 
 // The epoch of block b; genesis has epoch 0.
-pub fn epoch_at<'a>(epochs: &'a [u16; 256], last: u8, b: u8) -> u16
+pub(crate) fn epoch_at<'a>(epochs: &'a [u16; 256], last: u8, b: u8) -> u16
     ensures { λ r. ⌜ r ≡ epochIn (now (epochs .entry)) last b ⌝ }
 {
     if is_made(last, b) {
@@ -57,7 +57,7 @@ fn is_alike(parent: u8, epoch: u16, payload: u16, p: u8, e: u16, w: u16) -> bool
 }
 
 // The lowest block that has parent p, epoch e and payload w; the next number where there is none.
-pub fn name_block<'a>(
+pub(crate) fn name_block<'a>(
     parents: &'a [u8; 256],
     epochs: &'a [u16; 256],
     payloads: &'a [u16; 256],
@@ -90,7 +90,7 @@ fn says<'a>(signers: &'a [u8; 1024], subjects: &'a [u8; 1024], signer: u8, b: u8
 }
 
 // A message of that kind, signer and block has been sent.
-pub fn in_history<'a>(
+pub(crate) fn in_history<'a>(
     votes: &'a [bool; 1024],
     signers: &'a [u8; 1024],
     subjects: &'a [u8; 1024],
@@ -174,7 +174,7 @@ fn chunk_size(from: usize, count: usize) -> usize
 }
 
 // A message in the view of office q, which is trusted, has that signer and that block. The messages are looked at by chunks.
-pub fn is_signed<'a>(
+pub(crate) fn is_signed<'a>(
     places: &'a [u64; 1024],
     signers: &'a [u8; 1024],
     subjects: &'a [u8; 1024],
@@ -199,7 +199,7 @@ pub fn is_signed<'a>(
 }
 
 // A block's number as it is: a caller that has it from a struct learns its range.
-pub fn block_number(b: u8) -> u8
+pub(crate) fn block_number(b: u8) -> u8
     ensures { λ r. ⌜ (r ≡ b) × (b ≤ 255) ⌝ }
 {
     b

@@ -16,7 +16,7 @@ use crate::refusal;
 use crate::scan;
 
 // Office q is the leader of the current epoch.
-pub fn leads(head: Head, leaders: &[u8; 256], q: u8) -> bool
+pub(crate) fn leads(head: Head, leaders: &[u8; 256], q: u8) -> bool
     requires { ⌜ (1 ≤ head .epoch .0) × (head .epoch .0 ≤ 256) ⌝ }
     ensures { λ r. ⌜ r ≡ leads (whole head (now (leaders .entry)) [] [] [] [] [] [] [] []) q ⌝ }
 {
@@ -26,7 +26,7 @@ pub fn leads(head: Head, leaders: &[u8; 256], q: u8) -> bool
 
 // The refusal, 0 where there is none, of a block of that epoch on that parent: the parent's chain is not longest in the view of
 // office q, which is trusted, or the block's epoch is not above the parent's.
-pub fn extend_refusal<'a>(
+pub(crate) fn extend_refusal<'a>(
     head: Head,
     parents: &'a [u8; 256],
     epochs: &'a [u16; 256],
@@ -71,7 +71,7 @@ fn mark(word: u32, q: u8) -> u32
 }
 
 // The change after which office q, which was ready, has acted.
-pub fn acted(change: Change, q: u8) -> Change
+pub(crate) fn acted(change: Change, q: u8) -> Change
     requires { ⌜ (q < 32) × (digit 2 (change .head .acted) q + 1 < 2) ⌝ }
     ensures { λ r. ⌜ r ≡ heading change (change .value) (actedHead (change .head) q) ⌝ }
 {

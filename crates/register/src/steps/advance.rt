@@ -9,7 +9,7 @@ use crate::change::Change;
 use crate::refusal;
 use crate::sorts::Epoch;
 
-pub fn advance(still: Change) -> Change
+pub(crate) fn advance(still: Change) -> Change
     requires { ⌜ still .head .length ≤ 256 ⌝ }
     ensures { λ r. ⌜ r ≡ answer still (first (advance (whole (still .head) [] [] [] [] [] [] [] [] []) .tests)) (heading still (still .head .epoch .0 + 1) (nextHead (still .head))) ⌝ }
 {

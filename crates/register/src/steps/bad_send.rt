@@ -89,7 +89,7 @@ fn bad_send_refusal<'a>(
 }
 
 // The change that a bad send makes.
-pub fn bad_send<'a>(
+pub(crate) fn bad_send<'a>(
     still: Change,
     votes: &'a [bool; 1024],
     signers: &'a [u8; 1024],

@@ -29,7 +29,12 @@ fn deliver_refusal(head: Head, places: &[u64; 1024], message: Message, office: O
     0
 }
 
-pub fn deliver(still: Change, places: &[u64; 1024], message: Message, office: Office) -> Change
+pub(crate) fn deliver(
+    still: Change,
+    places: &[u64; 1024],
+    message: Message,
+    office: Office,
+) -> Change
     requires { ⌜ (still .head .n ≤ 32) × (still .head .count ≤ 1024) ⌝ }
     ensures { λ r. ⌜ r ≡ answer still (first (deliver (whole (still .head) [] [] [] [] [] [] [] (now (places .entry)) []) message office .tests)) (movedOn still (now (places .entry)) (message .0) (office .0)) ⌝ }
 {

@@ -13,7 +13,7 @@ use crate::sorts::Block;
 use crate::sorts::Epoch;
 
 // The change that a draft makes.
-pub fn draft<'a>(
+pub(crate) fn draft<'a>(
     still: Change,
     parents: &'a [u8; 256],
     epochs: &'a [u16; 256],

@@ -60,7 +60,7 @@ fn enter_refusal<'a>(
 }
 
 // The change that a register step makes.
-pub fn enter<'a>(
+pub(crate) fn enter<'a>(
     still: Change,
     votes: &'a [bool; 1024],
     signers: &'a [u8; 1024],

@@ -95,7 +95,7 @@ fn finalise_refusal<'a>(
 }
 
 // The change that a finalise step makes.
-pub fn finalise<'a>(
+pub(crate) fn finalise<'a>(
     still: Change,
     signers: &'a [u8; 1024],
     subjects: &'a [u8; 1024],

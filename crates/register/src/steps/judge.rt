@@ -66,7 +66,7 @@ fn unchanged<'a>(
 }
 
 // The change that a step makes of the register of those single numbers and tables.
-pub fn judge<'a>(
+pub(crate) fn judge<'a>(
     head: Head,
     leaders: &'a [u8; 256],
     parents: &'a [u8; 256],

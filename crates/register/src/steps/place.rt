@@ -10,7 +10,7 @@ use crate::change::Head;
 use crate::scan;
 
 // The stage of message m for office q.
-pub fn stage_of(head: Head, places: &[u64; 1024], q: u8, m: u16) -> u8
+pub(crate) fn stage_of(head: Head, places: &[u64; 1024], q: u8, m: u16) -> u8
     requires { ⌜ head .count ≤ 1024 ⌝ }
     ensures { λ r. ⌜ r ≡ stage (whole head [] [] [] [] [] [] [] (now (places .entry)) []) q m ⌝ }
 {
@@ -24,7 +24,7 @@ pub fn stage_of(head: Head, places: &[u64; 1024], q: u8, m: u16) -> u8
 }
 
 // The word in which office q's stage is the next.
-pub fn raised(word: u64, q: u8) -> u64
+pub(crate) fn raised(word: u64, q: u8) -> u64
     requires { ⌜ (q < 32) × (digit 4 word q + 1 < 4) ⌝ }
     ensures { λ r. ⌜ r ≡ raise 4 word q ⌝ }
 {
@@ -32,7 +32,7 @@ pub fn raised(word: u64, q: u8) -> u64
 }
 
 // Message m moves on for office q: from transit to the inbox, or from the inbox to the view.
-pub fn move_on(still: Change, places: &[u64; 1024], q: u8, m: u16) -> Change
+pub(crate) fn move_on(still: Change, places: &[u64; 1024], q: u8, m: u16) -> Change
     requires { ⌜ (still .head .count ≤ 1024) × Movable (now places) (still .head .count) q m ⌝ }
     ensures { λ r. ⌜ r ≡ movedOn still (now (places .entry)) m q ⌝ }
 {

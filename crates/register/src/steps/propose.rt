@@ -93,7 +93,7 @@ fn send_proposal(still: Change, q: u8, b: u16, p: u8, payload: u16) -> Change
 }
 
 // The change that a proposal makes.
-pub fn propose<'a>(
+pub(crate) fn propose<'a>(
     still: Change,
     leaders: &'a [u8; 256],
     parents: &'a [u8; 256],

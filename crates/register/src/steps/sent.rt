@@ -11,7 +11,7 @@ use crate::steps::place::raised;
 
 // The word of a message's places where that office sends it: in transit to the trusted offices, and in the office's own view where
 // it is one of them.
-pub fn sent_place(head: Head, actor: u8) -> u64
+pub(crate) fn sent_place(head: Head, actor: u8) -> u64
     requires { ⌜ head .n ≤ 32 ⌝ }
     ensures { λ r. ⌜ r ≡ fill 4 (head .n) (sentStage (whole head [] [] [] [] [] [] [] [] []) actor) ⌝ }
 {

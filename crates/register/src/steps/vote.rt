@@ -201,7 +201,7 @@ fn cast<'a>(
 }
 
 // The change that a vote makes.
-pub fn vote<'a>(
+pub(crate) fn vote<'a>(
     still: Change,
     leaders: &'a [u8; 256],
     parents: &'a [u8; 256],

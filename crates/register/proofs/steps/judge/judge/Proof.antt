@@ -9,18 +9,7 @@ use Rattle.register.specs.declared.table.Register.{Register}
 use Rattle.register.specs.Fitness.{countsFit}
 use Rattle.register.specs.Changes.{whole, headOf, stillOf, Judged}
 use Rattle.register.proofs.FitnessLaws.{Counts}
-use Rattle.register.proofs.Judgements.{
-  still-counts,
-  judged-unfit,
-  judged-propose,
-  judged-vote,
-  judged-register,
-  judged-finalise,
-  judged-deliver,
-  judged-bad-send,
-  judged-draft,
-  judged-advance,
-}
+use Rattle.register.proofs.Judgements.{still-counts, judged-unfit, judged-propose, judged-vote, judged-register, judged-finalise, judged-deliver, judged-bad-send, judged-draft, judged-advance}
 use Rattle.register.proofs.steps.judge.judge.Statement.{statement}
 use Rattle.register.proofs.steps.judge.judge.Tie as tie
 

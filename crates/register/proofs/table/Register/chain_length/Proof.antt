@@ -1,6 +1,5 @@
 -- `Register::chain_length` is the length of the chain by the register's parents.
 use borrow.Author.Needs.{needs}
-use mathlib.Core.Path.{_≡_}
 use Rattle.register.specs.Tables.{parentOf}
 use Rattle.register.specs.Chains.{chain, chainLength}
 use Rattle.register.proofs.table.Register.chain_length.Statement.{statement}

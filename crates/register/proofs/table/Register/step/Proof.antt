@@ -1,6 +1,6 @@
 -- `Register::step`: 5 where the register is not fit; else both rules say the same.
 use borrow.Author.Needs.{needs}
-use mathlib.Core.Path.{_≡_, sym, _∙_}
+use mathlib.Core.Path.{sym, _∙_}
 use borrow.Author.Tests.{not-true, not-false}
 use Rattle.register.proofs.FitOpening.{quick-same}
 use Rattle.register.proofs.Running.{unfit-step}
