@@ -11,9 +11,9 @@ use Rattle.words.specs.Tests.{choose, both, conj}
 use Rattle.words.proofs.Tests.{both-left, both-right, both-make, both-fails, both-all}
 use Rattle.register.specs.declared.table.Register.{Register}
 use Rattle.register.specs.Tables.{trusted, madeIn, parentIn, parentOf, epochOf, named, sentOf}
-use Rattle.register.specs.Views.{stage, inTransit, inInbox, signedIn}
+use Rattle.register.specs.Views.{stage, inInbox, signedIn}
 use Rattle.register.specs.Chains.{chainNotarised}
-use Rattle.register.specs.Refusals.{noOffice, noBlock, noMessage, barred, notInHand, notSent, entered, notLongest, finalises, blocksFull, messagesFull}
+use Rattle.register.specs.Refusals.{noOffice, noBlock, noMessage, barred, notInHand, entered, notLongest, finalises, blocksFull, messagesFull}
 use Rattle.register.specs.Searches.{longestBy}
 use Rattle.register.proofs.Scans.{signed-in, named-most}
 use Rattle.register.proofs.Searching.{soundOf, longest-by}
@@ -115,15 +115,6 @@ module _ (r : Register) where
       (chainNotarised r q b)
   unfolding finalises
   finalises-by q b c d ec ed = rw (ed, ec) (conj-last _ (chainNotarised r q b))
-
-  -- 23
-  pub not-in-transit : (q m : ℕ) → (stage r q m ≡ 1 → ⊥) → notSent r q m ≡ true
-  unfolding notSent inTransit
-  not-in-transit q m h = ap not (ne-eqb (stage r q m) 1 h)
-
-  pub is-in-transit : (q m : ℕ) → stage r q m ≡ 1 → notSent r q m ≡ false
-  unfolding notSent inTransit
-  is-in-transit q m h = ap not (eq-eqb (stage r q m) 1 h)
 
   -- 25, by the block named
   pub is-full : (p e w b : ℕ) → b ≡ named r p e w → r .last .0 ≤ 255 → 255 < b → blocksFull r p e w ≡ true

@@ -9,6 +9,7 @@ pub mod refusal;
 pub mod run;
 mod scan;
 pub mod sorts;
+mod stage;
 pub mod step;
 mod steps;
 pub mod table;

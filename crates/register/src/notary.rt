@@ -13,9 +13,7 @@ ghost use Rattle.register.specs.Views.{view, signedIn, enough};
 ghost use Rattle.register.specs.Searches.{setOf, soundBy, soundIn};
 use crate::scan::epoch_at;
 use crate::scan::parent_at;
-
-// The stage of a message in the view.
-const VIEW: u8 = 3;
+use crate::stage::VIEW;
 
 // A block's signers after one more message: the message's signer is among them where the message is in the view.
 fn entered(set: u32, stage: u8, signer: u8) -> u32

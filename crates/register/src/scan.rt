@@ -8,11 +8,11 @@ ghost use Rattle.words.specs.Digits.{digit};
 ghost use Rattle.register.specs.Tables.{trustedIn, madeIn, parentIn, epochIn, alike, namedIn};
 ghost use Rattle.register.specs.Views.{view, saysIn, signedIn};
 ghost use Rattle.register.specs.Refusals.{historyIn};
+use crate::stage::VIEW;
 
 // So many messages are looked at together.
 const CHUNK: usize = 64;
-// The stage of a message in an office's view.
-const VIEW: u8 = 3;
+
 
 // Office q is there and its bit in the trust word is 1.
 pub(crate) fn trusted_at(n: u8, trust: u32, q: u8) -> bool

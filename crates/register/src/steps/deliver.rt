@@ -10,6 +10,7 @@ use crate::change::Head;
 use crate::refusal;
 use crate::sorts::Message;
 use crate::sorts::Office;
+use crate::stage::TRANSIT;
 use crate::steps::place::move_on;
 use crate::steps::place::stage_of;
 
@@ -23,7 +24,7 @@ fn deliver_refusal(head: Head, places: &[u64; 1024], message: Message, office: O
     if head.count <= message.0 {
         return refusal::NO_MESSAGE;
     }
-    if stage_of(head, places, office.0, message.0) != 1 {
+    if stage_of(head, places, office.0, message.0) != TRANSIT {
         return refusal::NOT_SENT;
     }
     0

@@ -11,6 +11,7 @@ use crate::refusal;
 use crate::scan;
 use crate::sorts::Message;
 use crate::sorts::Office;
+use crate::stage::INBOX;
 use crate::steps::place::move_on;
 use crate::steps::place::stage_of;
 
@@ -38,7 +39,7 @@ fn enter_refusal<'a>(
     if !scan::trusted_at(head.n, head.trust, q) {
         return refusal::BARRED;
     }
-    if stage_of(head, places, q, m) != 2 {
+    if stage_of(head, places, q, m) != INBOX {
         return refusal::NOT_IN_HAND;
     }
     let at = m as usize;

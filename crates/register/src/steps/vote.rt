@@ -17,6 +17,7 @@ use crate::refusal;
 use crate::scan;
 use crate::sorts::Message;
 use crate::sorts::Office;
+use crate::stage::INBOX;
 use crate::steps::act;
 use crate::steps::place::raised;
 use crate::steps::place::stage_of;
@@ -79,7 +80,7 @@ fn proposal_refusal<'a>(
     if act::leads(head, leaders, office.0) {
         return refusal::LEADER_VOTES;
     }
-    if stage_of(head, places, office.0, message.0) != 2 {
+    if stage_of(head, places, office.0, message.0) != INBOX {
         return refusal::NOT_IN_HAND;
     }
     if votes[at] {
