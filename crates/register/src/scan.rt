@@ -13,7 +13,6 @@ use crate::stage::VIEW;
 // So many messages are looked at together.
 const CHUNK: usize = 64;
 
-
 // Office q is there and its bit in the trust word is 1.
 pub(crate) fn trusted_at(n: u8, trust: u32, q: u8) -> bool
     ensures { λ r. ⌜ r ≡ trustedIn n trust q ⌝ }
