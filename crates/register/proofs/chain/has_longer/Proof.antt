@@ -90,11 +90,15 @@ climb-less c = rw (c .parent-at .ensures) (parent-in-lt _ _ _ (omega (arith, c .
 
 climb-again : tie.Need-climb-again Inv-climb μ-climb Inv-walk μ-walk
 climb-again c =
-    let parents : List ℕ = c .before .before .before .before .before .before .before .before .args .parents .now in
-    let last : ℕ = c .before .before .before .before .before .before .before .before .args .last in
-    let turn = c .before .before .before .before .before .climb in
+    let at-if1 = c .before .before .before in
+    let at-climb = at-if1 .before .before in
+    let entry = at-climb .before .before .before in
+    let a = entry .args in
+    let parents : List ℕ = a .parents .now in
+    let last : ℕ = a .last in
+    let turn = at-climb .climb in
     let at : ℕ = turn .at in
-    let above : 0 < at = omega (arith, c .before .before .before .if1 .left) in
+    let above : 0 < at = omega (arith, at-if1 .if1 .left) in
     rw (c .parent-at .ensures) (
       omega (arith, parent-in-lt parents last at above),
       turn .inv .1,

@@ -15,7 +15,9 @@ is-sound-requires c κs = search needs
 
 returns : tie.Need-returns
 returns c =
-    longest-broken _ (parent-in-lt _ _) _ _ _ (c .before .before .before .sound-flags .ensures) _ (c .before .before .before .before .pre .2)
+    let at-sound-flags = c .before .before .before in
+    let entry = at-sound-flags .before in
+    longest-broken _ (parent-in-lt _ _) _ _ _ (at-sound-flags .sound-flags .ensures) _ (entry .pre .2)
     (sym (c .before .is-sound .ensures) ∙ not-true _ (c .if1 .taken))
 
 length-of-requires : tie.Need-length-of-requires
@@ -26,8 +28,12 @@ has-longer-requires c κs = search needs
 
 returns-2 : tie.Need-returns-2
 returns-2 c =
-    longest-searched _ (parent-in-lt _ _) _ _ _ (c .before .before .before .before .before .before .sound-flags .ensures) _ (c .before .before .before .before .before .before .before .pre .2) _ _
-    (sym (c .before .before .before .before .is-sound .ensures) ∙ not-false _ (c .before .before .before .if1 .left)) (c .before .length-of .ensures) (c .has-longer .ensures)
+    let at-if1 = c .before .before .before in
+    let at-is-sound = at-if1 .before in
+    let at-sound-flags = at-is-sound .before .before in
+    let entry = at-sound-flags .before in
+    longest-searched _ (parent-in-lt _ _) _ _ _ (at-sound-flags .sound-flags .ensures) _ (entry .pre .2) _ _
+    (sym (at-is-sound .is-sound .ensures) ∙ not-false _ (at-if1 .if1 .left)) (c .before .length-of .ensures) (c .has-longer .ensures)
 
 pub is-longest-spec : {M : Type 1} → statement M
 is-longest-spec =

@@ -43,13 +43,17 @@ loop-less c = rw (c .parent-at .ensures) (parent-in-lt _ _ _ (c .before .before 
 
 loop-again : tie.Need-loop-again Inv-loop μ-loop
 loop-again c =
-    let parents : List ℕ = c .before .before .before .before .before .args .parents .now in
-    let last : ℕ = c .before .before .before .before .before .args .last in
-    let at : ℕ = c .before .before .before .before .loop .at in
-    let above : 0 < at = c .before .before .before .loop-test .taken in
+    let at-loop-test = c .before .before .before in
+    let at-loop = at-loop-test .before in
+    let entry = at-loop .before in
+    let a = entry .args in
+    let parents : List ℕ = a .parents .now in
+    let last : ℕ = a .last in
+    let at : ℕ = at-loop .loop .at in
+    let above : 0 < at = at-loop-test .loop-test .taken in
     rw (c .parent-at .ensures) (
       omega (arith, parent-in-lt parents last at above),
-      c .before .before .before .before .loop .inv .1 ∙ sound-next (parentIn parents last) (parent-in-lt parents last) _ at above (not-false _ (c .before .if1 .left)),
+      at-loop .loop .inv .1 ∙ sound-next (parentIn parents last) (parent-in-lt parents last) _ at above (not-false _ (c .before .if1 .left)),
     )
 
 returns-2 : tie.Need-returns-2 Inv-loop μ-loop

@@ -33,9 +33,12 @@ loop-less c = rw (c .parent-at .ensures) (parent-in-lt _ _ _ (c .before .loop-te
 
 loop-again : tie.Need-loop-again Inv-loop μ-loop
 loop-again c =
-    let parents : List ℕ = c .before .before .before .args .parents .now in
-    let last : ℕ = c .before .before .before .args .last in
-    let at : ℕ = c .before .before .loop .at in
+    let at-loop = c .before .before in
+    let entry = at-loop .before in
+    let a = entry .args in
+    let parents : List ℕ = a .parents .now in
+    let last : ℕ = a .last in
+    let at : ℕ = at-loop .loop .at in
     let above : 0 < at = c .before .loop-test .taken in
     rw (c .parent-at .ensures) (
       omega (arith, parent-in-lt parents last at above),

@@ -26,7 +26,10 @@ with-bit-requires c κs = search needs
 returns-3 : tie.Need-returns-3
 unfolding setOf both
 returns-3 c =
-    c .with-bit .ensures ∙ simp (eq-eqb _ _ (c .before .before .before .if1 .left)) (set-raise 32 _ _ (c .before .before .before .before .fits .set .fits) (sym (c .before .before .has .ensures) ∙ c .before .if2 .left))
+    let at-has = c .before .before in
+    let at-if1 = at-has .before in
+    let at-fits = at-if1 .before in
+    c .with-bit .ensures ∙ simp (eq-eqb _ _ (at-if1 .if1 .left)) (set-raise 32 _ _ (at-fits .fits .set .fits) (sym (at-has .has .ensures) ∙ c .before .if2 .left))
 
 pub entered-spec : {M : Type 1} → statement M
 entered-spec = tie.close (tie.spec returns has-requires returns-2 with-bit-requires returns-3)

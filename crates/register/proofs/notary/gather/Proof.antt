@@ -58,11 +58,14 @@ loop-less c = search needs
 
 loop-again : tie.Need-loop-again Inv-loop μ-loop
 loop-again c =
-    let turn = c .before .before .before .before .before .before .before .loop in
-    let index = c .before .before .before .before .index in (
+    let at-stage = c .before .before in
+    let at-index = at-stage .before .before in
+    let at-loop = at-index .before .before .before in
+    let turn = at-loop .loop in
+    let index = at-index .index in (
       search needs,
       simp length-set (turn .inv .1),
-      gather-next _ _ _ _ _ (turn .sets) _ _ (turn .inv .1) (index .ensures .0) (index .ensures .1) (turn .inv .2) (c .entered .ensures ∙ rw (c .before .before .stage .ensures)),
+      gather-next _ _ _ _ _ (turn .sets) _ _ (turn .inv .1) (index .ensures .0) (index .ensures .1) (turn .inv .2) (c .entered .ensures ∙ rw (at-stage .stage .ensures)),
     )
 
 returns : tie.Need-returns Inv-loop μ-loop

@@ -68,14 +68,19 @@ loop-less c = search needs
 loop-again : tie.Need-loop-again Inv-loop μ-loop
 unfolding soundBy
 loop-again c =
-    let a = c .before .before .before .before .before .before .before .args in
-    let turn = c .before .before .before .before .before .before .loop in
-    let early = c .before .before .before .epoch-at in
-    let late = c .before .before .epoch-at2 in (
+    let at-epoch-at2 = c .before .before in
+    let at-epoch-at = at-epoch-at2 .before in
+    let at-parent-at = at-epoch-at .before in
+    let at-loop = at-parent-at .before .before in
+    let entry = at-loop .before in
+    let a = entry .args in
+    let turn = at-loop .loop in
+    let early = at-epoch-at .epoch-at in
+    let late = at-epoch-at2 .epoch-at2 in (
       search needs,
       simp length-set (turn .inv .1),
       flag-next (Sound (a .sets .now) (a .parents .now) (a .epochs .now) (a .last) (a .n)) _ (turn .flags) _ (turn .inv .1) (omega arith) (turn .inv .2)
-          (and-both (ltb (early .result) (late .result)) (c .is-enough .result) ∙ rw (early .ensures, late .ensures, c .before .before .before .before .parent-at .ensures, c .is-enough .ensures)),
+          (and-both (ltb (early .result) (late .result)) (c .is-enough .result) ∙ rw (early .ensures, late .ensures, at-parent-at .parent-at .ensures, c .is-enough .ensures)),
     )
 
 returns : tie.Need-returns Inv-loop μ-loop

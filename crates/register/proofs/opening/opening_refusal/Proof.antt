@@ -61,10 +61,13 @@ mul-if4 c =
 returns-4 : tie.Need-returns-4
 unfolding openingRefusal first choose tooMany
 returns-4 c =
-    let start : tie.Start = c .before .before .before .before .before .before .before .before .before in
+    let at-before = c .before .before .before in
+    let at-before-2 = at-before .before .before in
+    let at-before-3 = at-before-2 .before .before .before in
+    let start : tie.Start = at-before-3 .before in
     rw (
-      count (c .before .before .before .before .before .before),
-      schedule (c .before .before .before .before),
+      count (at-before-2 .before),
+      schedule (at-before .before),
       led (c .before .before),
       le-leb (start .args .n) (3 * untrusted (start .args .n) (start .args .trust)) (omega (arith, c .before .count-untrusted .ensures)),
     )
@@ -72,10 +75,13 @@ returns-4 c =
 returns-5 : tie.Need-returns-5
 unfolding openingRefusal first choose tooMany
 returns-5 c =
-    let start : tie.Start = c .before .before .before .before .before .before .before .before .before in
+    let at-before = c .before .before .before in
+    let at-before-2 = at-before .before .before in
+    let at-before-3 = at-before-2 .before .before .before in
+    let start : tie.Start = at-before-3 .before in
     rw (
-      count (c .before .before .before .before .before .before),
-      schedule (c .before .before .before .before),
+      count (at-before-2 .before),
+      schedule (at-before .before),
       led (c .before .before),
       lt-leb (start .args .n) (3 * untrusted (start .args .n) (start .args .trust)) (omega (arith, c .before .count-untrusted .ensures)),
     )

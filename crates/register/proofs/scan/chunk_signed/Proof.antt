@@ -47,9 +47,12 @@ says-requires c κs = search needs
 
 returns-2 : tie.Need-returns-2 Inv-loop μ-loop
 returns-2 c =
+    let at-stage = c .before .before in
+    let at-loop-test = at-stage .before .before in
+    let at-loop = at-loop-test .before in
     sym
-    (any-make _ _ (c .before .before .before .before .before .loop .i) (c .before .before .before .before .loop-test .taken)
-    (sym (rw (c .before .before .stage .ensures, c .before .says .ensures) (and-both _ _)) ∙ c .if2 .taken))
+    (any-make _ _ (at-loop .loop .i) (at-loop-test .loop-test .taken)
+    (sym (rw (at-stage .stage .ensures, c .before .says .ensures) (and-both _ _)) ∙ c .if2 .taken))
 
 add-i : tie.Need-add-i Inv-loop μ-loop
 add-i c = search needs
@@ -58,11 +61,13 @@ loop-less : tie.Need-loop-less Inv-loop μ-loop
 loop-less c = search needs
 
 loop-again : tie.Need-loop-again Inv-loop μ-loop
-loop-again c = (
-  search needs,
-  any-next _ _ false false (c .before .before .before .before .before .loop .inv .1)
-      (sym (c .if2 .left) ∙ rw (c .before .before .stage .ensures, c .before .says .ensures) (and-both _ _)),
-)
+loop-again c =
+    let at-stage = c .before .before in
+    let at-loop = at-stage .before .before .before in (
+      search needs,
+      any-next _ _ false false (at-loop .loop .inv .1)
+          (sym (c .if2 .left) ∙ rw (at-stage .stage .ensures, c .before .says .ensures) (and-both _ _)),
+    )
 
 returns-3 : tie.Need-returns-3 Inv-loop μ-loop
 returns-3 c =

@@ -35,13 +35,16 @@ loop-less c = search needs
 
 loop-again : tie.Need-loop-again Inv-loop μ-loop
 unfolding historyIn
-loop-again c = (
-  search needs,
-  any-next _ _ _ _ (c .before .before .before .loop .inv .1)
-      (rw (c .says .ensures)
-      (and-agree (getD (c .before .before .before .before .args .votes .now) (c .before .before .before .loop .m) false)
-      (c .before .before .before .before .args .vote) _)),
-)
+loop-again c =
+    let at-loop = c .before .before .before in
+    let entry = at-loop .before in
+    let a = entry .args in (
+      search needs,
+      any-next _ _ _ _ (at-loop .loop .inv .1)
+          (rw (c .says .ensures)
+          (and-agree (getD (a .votes .now) (at-loop .loop .m) false)
+          (a .vote) _)),
+    )
 
 returns : tie.Need-returns Inv-loop μ-loop
 returns c =

@@ -49,12 +49,15 @@ loop-less : tie.Need-loop-less Inv-loop μ-loop
 loop-less c = search needs
 
 loop-again : tie.Need-loop-again Inv-loop μ-loop
-loop-again c = (
-  search needs,
-  none-in-next _ _ _ _ _ _ _ (c .before .before .before .before .loop .k) (c .before .before .chunk-size .result) _
-      (c .before .before .before .loop-test .taken) (c .before .before .chunk-size .ensures)
-      (c .before .before .before .before .loop .inv .1) (c .before .chunk-signed .ensures) (c .if1 .left),
-)
+loop-again c =
+    let at-chunk-size = c .before .before in
+    let at-loop-test = at-chunk-size .before in
+    let at-loop = at-loop-test .before in (
+      search needs,
+      none-in-next _ _ _ _ _ _ _ (at-loop .loop .k) (at-chunk-size .chunk-size .result) _
+          (at-loop-test .loop-test .taken) (at-chunk-size .chunk-size .ensures)
+          (at-loop .loop .inv .1) (c .before .chunk-signed .ensures) (c .if1 .left),
+    )
 
 returns-2 : tie.Need-returns-2 Inv-loop μ-loop
 returns-2 c =

@@ -48,12 +48,16 @@ cast-result c = search needs
 returns : tie.Need-returns Inv-loop μ-loop
 unfolding namedIn
 returns c =
+    let at-epoch-at = c .before .before .before in
+    let at-parent-at = at-epoch-at .before in
+    let at-loop-test = at-parent-at .before in
+    let at-loop = at-loop-test .before in
     rw
-    (lowest-only _ (c .before .before .before .before .before .before .loop .k) _
-    (c .before .before .before .before .before .before .loop .inv .1)
+    (lowest-only _ (at-loop .loop .k) _
+    (at-loop .loop .inv .1)
     (inl (
-      c .before .before .before .before .before .loop-test .taken,
-      sym (rw (c .before .before .before .before .parent-at .ensures, c .before .before .before .epoch-at .ensures) at (c .before .is-alike .ensures))
+      at-loop-test .loop-test .taken,
+      sym (rw (at-parent-at .parent-at .ensures, at-epoch-at .epoch-at .ensures) at (c .before .is-alike .ensures))
           ∙ c .if1 .taken,
     )))
 
@@ -64,12 +68,15 @@ loop-less : tie.Need-loop-less Inv-loop μ-loop
 loop-less c = search needs
 
 loop-again : tie.Need-loop-again Inv-loop μ-loop
-loop-again c = (
-  search needs,
-  below-more _ _ (c .before .before .before .before .before .before .loop .inv .1)
-      (sym (rw (c .before .before .before .before .parent-at .ensures, c .before .before .before .epoch-at .ensures) at (c .before .is-alike .ensures))
-      ∙ c .if1 .left),
-)
+loop-again c =
+    let at-epoch-at = c .before .before .before in
+    let at-parent-at = at-epoch-at .before in
+    let at-loop = at-parent-at .before .before in (
+      search needs,
+      below-more _ _ (at-loop .loop .inv .1)
+          (sym (rw (at-parent-at .parent-at .ensures, at-epoch-at .epoch-at .ensures) at (c .before .is-alike .ensures))
+          ∙ c .if1 .left),
+    )
 
 add-result : tie.Need-add-result Inv-loop μ-loop
 add-result c = search needs

@@ -31,16 +31,22 @@ epoch-at-requires c κs = search needs
 returns-2 : tie.Need-returns-2
 unfolding first choose whole trusted
 returns-2 c =
-    let a = c .before .before .before .before .before .args in
+    let at-if1 = c .before .before in
+    let at-is-longest = at-if1 .before in
+    let entry = at-is-longest .before .before in
+    let a = entry .args in
     let r : Register = whole (a .head) [] (a .parents .now) (a .epochs .now) [] [] (a .signers .now) (a .subjects .now) (a .places .now) [] in
-    rw (is-longest r (a .q) (a .parent) (c .before .before .before .before .before .pre .2) (sym (c .before .before .before .is-longest .ensures) ∙ not-false _ (c .before .before .if1 .left)), ← (c .before .epoch-at .ensures), le-leb _ _ (c .if2 .taken))
+    rw (is-longest r (a .q) (a .parent) (entry .pre .2) (sym (at-is-longest .is-longest .ensures) ∙ not-false _ (at-if1 .if1 .left)), ← (c .before .epoch-at .ensures), le-leb _ _ (c .if2 .taken))
 
 returns-3 : tie.Need-returns-3
 unfolding first choose whole trusted
 returns-3 c =
-    let a = c .before .before .before .before .before .args in
+    let at-if1 = c .before .before in
+    let at-is-longest = at-if1 .before in
+    let entry = at-is-longest .before .before in
+    let a = entry .args in
     let r : Register = whole (a .head) [] (a .parents .now) (a .epochs .now) [] [] (a .signers .now) (a .subjects .now) (a .places .now) [] in
-    rw (is-longest r (a .q) (a .parent) (c .before .before .before .before .before .pre .2) (sym (c .before .before .before .is-longest .ensures) ∙ not-false _ (c .before .before .if1 .left)), ← (c .before .epoch-at .ensures), lt-leb _ _ (c .if2 .left))
+    rw (is-longest r (a .q) (a .parent) (entry .pre .2) (sym (at-is-longest .is-longest .ensures) ∙ not-false _ (at-if1 .if1 .left)), ← (c .before .epoch-at .ensures), lt-leb _ _ (c .if2 .left))
 
 pub extend-refusal-spec : {M : Type 1} → statement M
 extend-refusal-spec =

@@ -28,8 +28,11 @@ sent-requires c κs = bad-send-room _ _ _ _ _ (sym (c .before .before .before .b
 
 returns-2 : tie.Need-returns-2
 returns-2 c =
-    rw (c .sent .ensures, c .before .before .is-vote .ensures, c .before .sent-place .ensures)
-    (answer-accepted _ _ _ _ (c .before .before .before .before .bad-send-refusal .ensures) (c .before .before .before .if1 .left))
+    let at-is-vote = c .before .before in
+    let at-if1 = at-is-vote .before in
+    let at-bad-send-refusal = at-if1 .before in
+    rw (c .sent .ensures, at-is-vote .is-vote .ensures, c .before .sent-place .ensures)
+    (answer-accepted _ _ _ _ (at-bad-send-refusal .bad-send-refusal .ensures) (at-if1 .if1 .left))
 
 pub bad-send-spec : {M : Type 1} → statement M
 bad-send-spec =

@@ -31,15 +31,34 @@ is-forged-requires c κs = search needs
 
 returns-4 : tie.Need-returns-4
 unfolding badSend noOffice noBlock trusted messagesFull first choose whole
-returns-4 c = simp (← or-either, c .before .before .before .before .before .before .if1 .left, c .before .before .before .before .if2 .left, ← (c .before .before .before .trusted-at .ensures), c .before .before .if3 .left, ← (c .before .is-forged .ensures), c .if4 .taken)
+returns-4 c =
+    let at-if3 = c .before .before in
+    let at-trusted-at = at-if3 .before in
+    let at-if2 = at-trusted-at .before in
+    let at-if1 = at-if2 .before .before in
+    simp (← or-either, at-if1 .if1 .left, at-if2 .if2 .left, ← (at-trusted-at .trusted-at .ensures), at-if3 .if3 .left, ← (c .before .is-forged .ensures), c .if4 .taken)
 
 returns-5 : tie.Need-returns-5
 unfolding badSend noOffice noBlock trusted messagesFull first choose whole
-returns-5 c = simp (← or-either, c .before .before .before .before .before .before .before .before .if1 .left, c .before .before .before .before .before .before .if2 .left, ← (c .before .before .before .before .before .trusted-at .ensures), c .before .before .before .before .if3 .left, ← (c .before .before .before .is-forged .ensures), c .before .before .if4 .left, le-leb 1024 _ (c .if5 .taken))
+returns-5 c =
+    let at-if4 = c .before .before in
+    let at-is-forged = at-if4 .before in
+    let at-if3 = at-is-forged .before in
+    let at-trusted-at = at-if3 .before in
+    let at-if2 = at-trusted-at .before in
+    let at-if1 = at-if2 .before .before in
+    simp (← or-either, at-if1 .if1 .left, at-if2 .if2 .left, ← (at-trusted-at .trusted-at .ensures), at-if3 .if3 .left, ← (at-is-forged .is-forged .ensures), at-if4 .if4 .left, le-leb 1024 _ (c .if5 .taken))
 
 returns-6 : tie.Need-returns-6
 unfolding badSend noOffice noBlock trusted messagesFull first choose whole
-returns-6 c = simp (← or-either, c .before .before .before .before .before .before .before .before .if1 .left, c .before .before .before .before .before .before .if2 .left, ← (c .before .before .before .before .before .trusted-at .ensures), c .before .before .before .before .if3 .left, ← (c .before .before .before .is-forged .ensures), c .before .before .if4 .left, lt-leb 1024 _ (c .if5 .left))
+returns-6 c =
+    let at-if4 = c .before .before in
+    let at-is-forged = at-if4 .before in
+    let at-if3 = at-is-forged .before in
+    let at-trusted-at = at-if3 .before in
+    let at-if2 = at-trusted-at .before in
+    let at-if1 = at-if2 .before .before in
+    simp (← or-either, at-if1 .if1 .left, at-if2 .if2 .left, ← (at-trusted-at .trusted-at .ensures), at-if3 .if3 .left, ← (at-is-forged .is-forged .ensures), at-if4 .if4 .left, lt-leb 1024 _ (c .if5 .left))
 
 pub bad-send-refusal-spec : {M : Type 1} → statement M
 bad-send-refusal-spec =

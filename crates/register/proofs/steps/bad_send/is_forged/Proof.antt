@@ -26,7 +26,10 @@ in-history-requires c κs = search needs
 
 returns-2 : tie.Need-returns-2
 unfolding forged inHistory trusted both whole
-returns-2 c = rw (← (c .before .before .before .before .trusted-at .ensures), not-false (c .before .before .before .before .trusted-at .result) (c .before .before .before .if1 .left), c .in-history .ensures, c .before .is-vote .ensures)
+returns-2 c =
+    let at-if1 = c .before .before .before in
+    let at-trusted-at = at-if1 .before in
+    rw (← (at-trusted-at .trusted-at .ensures), not-false (at-trusted-at .trusted-at .result) (at-if1 .if1 .left), c .in-history .ensures, c .before .is-vote .ensures)
 
 pub is-forged-spec : {M : Type 1} → statement M
 is-forged-spec =

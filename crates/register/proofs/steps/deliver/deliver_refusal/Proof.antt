@@ -23,11 +23,17 @@ stage-of-requires c κs = search needs
 
 returns-3 : tie.Need-returns-3
 unfolding deliver noOffice noMessage notSent inTransit first choose whole
-returns-3 c = simp (lt-leb _ _ (c .before .before .before .before .before .if1 .left), lt-leb _ _ (c .before .before .if2 .left), ← (c .before .stage-of .ensures), ne-eqb _ _ (c .if3 .taken))
+returns-3 c =
+    let at-if2 = c .before .before in
+    let at-if1 = at-if2 .before .before .before in
+    simp (lt-leb _ _ (at-if1 .if1 .left), lt-leb _ _ (at-if2 .if2 .left), ← (c .before .stage-of .ensures), ne-eqb _ _ (c .if3 .taken))
 
 returns-4 : tie.Need-returns-4
 unfolding deliver noOffice noMessage notSent inTransit first choose whole
-returns-4 c = simp (lt-leb _ _ (c .before .before .before .before .before .if1 .left), lt-leb _ _ (c .before .before .if2 .left), ← (c .before .stage-of .ensures), eq-eqb _ _ (c .if3 .left))
+returns-4 c =
+    let at-if2 = c .before .before in
+    let at-if1 = at-if2 .before .before .before in
+    simp (lt-leb _ _ (at-if1 .if1 .left), lt-leb _ _ (at-if2 .if2 .left), ← (c .before .stage-of .ensures), eq-eqb _ _ (c .if3 .left))
 
 pub deliver-refusal-spec : {M : Type 1} → statement M
 deliver-refusal-spec = tie.close (tie.spec returns returns-2 stage-of-requires returns-3 returns-4)

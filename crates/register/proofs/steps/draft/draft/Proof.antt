@@ -26,11 +26,11 @@ refused-requires c κs = search needs
 returns : tie.Need-returns
 unfolding answer draft wide first choose whole
 returns c =
-    let r : Register = whole (c .before .before .before .before .args .still .head) [] (c .before .before .before .before .args .parents .now) (c .before .before .before .before .args .epochs .now) (c .before .before .before .before .args .payloads .now) [] [] [] [] [] in
-    let p : ℕ = c .before .before .before .before .args .parent .0 in
-    let e : ℕ = c .before .before .before .before .args .epoch .0 in
-    let w : ℕ = c .before .before .before .before .args .payload in
-    let last : c .before .before .before .block-number .result ≡ r .last .0 = c .before .before .before .block-number .ensures .0 in
+    let at-block-number = c .before .before .before in
+    let entry = at-block-number .before in
+    let a = entry .args in
+    let r : Register = whole (a .still .head) [] (a .parents .now) (a .epochs .now) (a .payloads .now) [] [] [] [] [] in
+    let p : ℕ = a .parent .0 in
     c .refused .ensures ∙ rw (no-block r p (omega arith))
 
 refused-requires-2 : tie.Need-refused-requires-2
@@ -39,11 +39,12 @@ refused-requires-2 c κs = search needs
 returns-2 : tie.Need-returns-2
 unfolding answer draft wide first choose whole
 returns-2 c =
-    let r : Register = whole (c .before .before .before .before .before .before .args .still .head) [] (c .before .before .before .before .before .before .args .parents .now) (c .before .before .before .before .before .before .args .epochs .now) (c .before .before .before .before .before .before .args .payloads .now) [] [] [] [] [] in
-    let p : ℕ = c .before .before .before .before .before .before .args .parent .0 in
-    let e : ℕ = c .before .before .before .before .before .before .args .epoch .0 in
-    let w : ℕ = c .before .before .before .before .before .before .args .payload in
-    let last : c .before .before .before .before .before .block-number .result ≡ r .last .0 = c .before .before .before .before .before .block-number .ensures .0 in
+    let at-block-number = c .before .before .before .before .before in
+    let entry = at-block-number .before in
+    let a = entry .args in
+    let r : Register = whole (a .still .head) [] (a .parents .now) (a .epochs .now) (a .payloads .now) [] [] [] [] [] in
+    let p : ℕ = a .parent .0 in
+    let e : ℕ = a .epoch .0 in
     c .refused2 .ensures ∙ rw (a-block r p (omega arith), lt-ltb 511 e (c .before .if2 .taken))
 
 name-block-requires : tie.Need-name-block-requires
@@ -55,14 +56,19 @@ refused-requires-3 c κs = search needs
 returns-3 : tie.Need-returns-3
 unfolding answer draft wide first choose whole named
 returns-3 c =
-    let r : Register = whole (c .before .before .before .before .before .before .before .before .args .still .head) [] (c .before .before .before .before .before .before .before .before .args .parents .now) (c .before .before .before .before .before .before .before .before .args .epochs .now) (c .before .before .before .before .before .before .before .before .args .payloads .now) [] [] [] [] [] in
-    let p : ℕ = c .before .before .before .before .before .before .before .before .args .parent .0 in
-    let e : ℕ = c .before .before .before .before .before .before .before .before .args .epoch .0 in
-    let w : ℕ = c .before .before .before .before .before .before .before .before .args .payload in
-    let last : c .before .before .before .before .before .before .before .block-number .result ≡ r .last .0 = c .before .before .before .before .before .before .before .block-number .ensures .0 in
-    let b : c .before .before .name-block .result ≡ named r p e w = rw last at (c .before .before .name-block .ensures) in
-    let full : blocksFull r p e w ≡ true = is-full r p e w _ b (c .before .before .before .before .before .before .before .block-number .ensures .1) (c .before .if3 .taken) in
-    c .refused3 .ensures ∙ rw (a-block r p (omega arith), le-ltb 511 e (c .before .before .before .if2 .left), full)
+    let at-name-block = c .before .before in
+    let at-if2 = at-name-block .before in
+    let at-block-number = at-if2 .before .before .before .before in
+    let entry = at-block-number .before in
+    let a = entry .args in
+    let r : Register = whole (a .still .head) [] (a .parents .now) (a .epochs .now) (a .payloads .now) [] [] [] [] [] in
+    let p : ℕ = a .parent .0 in
+    let e : ℕ = a .epoch .0 in
+    let w : ℕ = a .payload in
+    let last : at-block-number .block-number .result ≡ r .last .0 = at-block-number .block-number .ensures .0 in
+    let b : at-name-block .name-block .result ≡ named r p e w = rw last at (at-name-block .name-block .ensures) in
+    let full : blocksFull r p e w ≡ true = is-full r p e w _ b (at-block-number .block-number .ensures .1) (c .before .if3 .taken) in
+    c .refused3 .ensures ∙ rw (a-block r p (omega arith), le-ltb 511 e (at-if2 .if2 .left), full)
 
 named-requires : tie.Need-named-requires
 named-requires c κs = c .if3 .left
@@ -73,14 +79,21 @@ headed-requires c κs = search needs
 returns-4 : tie.Need-returns-4
 unfolding answer draft wide first choose whole drafted named
 returns-4 c =
-    let r : Register = whole (c .before .before .before .before .before .before .before .before .before .before .args .still .head) [] (c .before .before .before .before .before .before .before .before .before .before .args .parents .now) (c .before .before .before .before .before .before .before .before .before .before .args .epochs .now) (c .before .before .before .before .before .before .before .before .before .before .args .payloads .now) [] [] [] [] [] in
-    let p : ℕ = c .before .before .before .before .before .before .before .before .before .before .args .parent .0 in
-    let e : ℕ = c .before .before .before .before .before .before .before .before .before .before .args .epoch .0 in
-    let w : ℕ = c .before .before .before .before .before .before .before .before .before .before .args .payload in
-    let last : c .before .before .before .before .before .before .before .before .before .block-number .result ≡ r .last .0 = c .before .before .before .before .before .before .before .before .before .block-number .ensures .0 in
-    let b : c .before .before .before .before .name-block .result ≡ named r p e w = rw last at (c .before .before .before .before .name-block .ensures) in
-    let full : blocksFull r p e w ≡ false = not-full r p e w _ b (c .before .before .before .if3 .left) in
-    c .headed .ensures ∙ rw (c .before .before .named .ensures, b, a-block r p (omega arith), le-ltb 511 e (c .before .before .before .before .before .if2 .left), full)
+    let at-named = c .before .before in
+    let at-if3 = at-named .before in
+    let at-name-block = at-if3 .before in
+    let at-if2 = at-name-block .before in
+    let at-block-number = at-if2 .before .before .before .before in
+    let entry = at-block-number .before in
+    let a = entry .args in
+    let r : Register = whole (a .still .head) [] (a .parents .now) (a .epochs .now) (a .payloads .now) [] [] [] [] [] in
+    let p : ℕ = a .parent .0 in
+    let e : ℕ = a .epoch .0 in
+    let w : ℕ = a .payload in
+    let last : at-block-number .block-number .result ≡ r .last .0 = at-block-number .block-number .ensures .0 in
+    let b : at-name-block .name-block .result ≡ named r p e w = rw last at (at-name-block .name-block .ensures) in
+    let full : blocksFull r p e w ≡ false = not-full r p e w _ b (at-if3 .if3 .left) in
+    c .headed .ensures ∙ rw (at-named .named .ensures, b, a-block r p (omega arith), le-ltb 511 e (at-if2 .if2 .left), full)
 
 pub draft-spec : {M : Type 1} → statement M
 draft-spec =

@@ -29,11 +29,13 @@ returns c =
 returns-2 : tie.Need-returns-2
 unfolding register votes stage trusted first choose whole
 returns-2 c =
-    let r : Register =
-    whole (c .before .before .before .before .args .head) [] [] [] [] (c .before .before .before .before .args .votes .now) (c .before .before .before .before .args .signers .now) (c .before .before .before .before .args .subjects .now) (c .before .before .before .before .args .places .now) [] in
-    let q : ℕ = c .before .before .before .before .args .office .0 in
-    let m : ℕ = c .before .before .before .before .args .message .0 in
-    rw (an-office r q (c .before .before .if1 .left), no-message r m (c .if2 .taken))
+    let at-if1 = c .before .before in
+    let entry = at-if1 .before .before in
+    let a = entry .args in
+    let r : Register = whole (a .head) [] [] [] [] (a .votes .now) (a .signers .now) (a .subjects .now) (a .places .now) [] in
+    let q : ℕ = a .office .0 in
+    let m : ℕ = a .message .0 in
+    rw (an-office r q (at-if1 .if1 .left), no-message r m (c .if2 .taken))
 
 trusted-at-requires : tie.Need-trusted-at-requires
 trusted-at-requires c κs = search needs
@@ -41,11 +43,14 @@ trusted-at-requires c κs = search needs
 returns-3 : tie.Need-returns-3
 unfolding register votes stage trusted first choose whole
 returns-3 c =
-    let r : Register =
-    whole (c .before .before .before .before .before .before .args .head) [] [] [] [] (c .before .before .before .before .before .before .args .votes .now) (c .before .before .before .before .before .before .args .signers .now) (c .before .before .before .before .before .before .args .subjects .now) (c .before .before .before .before .before .before .args .places .now) [] in
-    let q : ℕ = c .before .before .before .before .before .before .args .office .0 in
-    let m : ℕ = c .before .before .before .before .before .before .args .message .0 in
-    rw (an-office r q (c .before .before .before .before .if1 .left), a-message r m (c .before .before .if2 .left), is-barred r q (sym (c .before .trusted-at .ensures) ∙ not-true _ (c .if3 .taken)))
+    let at-if2 = c .before .before in
+    let at-if1 = at-if2 .before .before in
+    let entry = at-if1 .before .before in
+    let a = entry .args in
+    let r : Register = whole (a .head) [] [] [] [] (a .votes .now) (a .signers .now) (a .subjects .now) (a .places .now) [] in
+    let q : ℕ = a .office .0 in
+    let m : ℕ = a .message .0 in
+    rw (an-office r q (at-if1 .if1 .left), a-message r m (at-if2 .if2 .left), is-barred r q (sym (c .before .trusted-at .ensures) ∙ not-true _ (c .if3 .taken)))
 
 stage-of-requires : tie.Need-stage-of-requires
 stage-of-requires c κs = search needs
@@ -53,12 +58,17 @@ stage-of-requires c κs = search needs
 returns-4 : tie.Need-returns-4
 unfolding register votes stage trusted first choose whole
 returns-4 c =
-    let r : Register =
-    whole (c .before .before .before .before .before .before .before .before .args .head) [] [] [] [] (c .before .before .before .before .before .before .before .before .args .votes .now) (c .before .before .before .before .before .before .before .before .args .signers .now) (c .before .before .before .before .before .before .before .before .args .subjects .now) (c .before .before .before .before .before .before .before .before .args .places .now) [] in
-    let q : ℕ = c .before .before .before .before .before .before .before .before .args .office .0 in
-    let m : ℕ = c .before .before .before .before .before .before .before .before .args .message .0 in
-    let t : trusted r q ≡ true = sym (c .before .before .before .trusted-at .ensures) ∙ not-false _ (c .before .before .if3 .left) in
-    rw (an-office r q (c .before .before .before .before .before .before .if1 .left), a-message r m (c .before .before .before .before .if2 .left), not-barred r q t, not-in-hand r q m (λ e. c .if4 .taken (c .before .stage-of .ensures ∙ e)))
+    let at-if3 = c .before .before in
+    let at-trusted-at = at-if3 .before in
+    let at-if2 = at-trusted-at .before in
+    let at-if1 = at-if2 .before .before in
+    let entry = at-if1 .before .before in
+    let a = entry .args in
+    let r : Register = whole (a .head) [] [] [] [] (a .votes .now) (a .signers .now) (a .subjects .now) (a .places .now) [] in
+    let q : ℕ = a .office .0 in
+    let m : ℕ = a .message .0 in
+    let t : trusted r q ≡ true = sym (at-trusted-at .trusted-at .ensures) ∙ not-false _ (at-if3 .if3 .left) in
+    rw (an-office r q (at-if1 .if1 .left), a-message r m (at-if2 .if2 .left), not-barred r q t, not-in-hand r q m (λ e. c .if4 .taken (c .before .stage-of .ensures ∙ e)))
 
 cast-at : tie.Need-cast-at
 cast-at c = search needs
@@ -69,13 +79,20 @@ element-copy-out-if5 c = search needs
 returns-5 : tie.Need-returns-5
 unfolding register votes stage trusted first choose whole
 returns-5 c =
-    let r : Register =
-    whole (c .before .before .before .before .before .before .before .before .before .before .args .head) [] [] [] [] (c .before .before .before .before .before .before .before .before .before .before .args .votes .now) (c .before .before .before .before .before .before .before .before .before .before .args .signers .now) (c .before .before .before .before .before .before .before .before .before .before .args .subjects .now) (c .before .before .before .before .before .before .before .before .before .before .args .places .now) [] in
-    let q : ℕ = c .before .before .before .before .before .before .before .before .before .before .args .office .0 in
-    let m : ℕ = c .before .before .before .before .before .before .before .before .before .before .args .message .0 in
-    let t : trusted r q ≡ true = sym (c .before .before .before .before .before .trusted-at .ensures) ∙ not-false _ (c .before .before .before .before .if3 .left) in
-    let at : stage r q m ≡ 2 = sym (c .before .before .before .stage-of .ensures) ∙ c .before .before .if4 .left in
-    rw (an-office r q (c .before .before .before .before .before .before .before .before .if1 .left), a-message r m (c .before .before .before .before .before .before .if2 .left), not-barred r q t, is-in-hand r q m at, c .if5 .taken)
+    let at-if4 = c .before .before in
+    let at-stage-of = at-if4 .before in
+    let at-if3 = at-stage-of .before in
+    let at-trusted-at = at-if3 .before in
+    let at-if2 = at-trusted-at .before in
+    let at-if1 = at-if2 .before .before in
+    let entry = at-if1 .before .before in
+    let a = entry .args in
+    let r : Register = whole (a .head) [] [] [] [] (a .votes .now) (a .signers .now) (a .subjects .now) (a .places .now) [] in
+    let q : ℕ = a .office .0 in
+    let m : ℕ = a .message .0 in
+    let t : trusted r q ≡ true = sym (at-trusted-at .trusted-at .ensures) ∙ not-false _ (at-if3 .if3 .left) in
+    let at : stage r q m ≡ 2 = sym (at-stage-of .stage-of .ensures) ∙ at-if4 .if4 .left in
+    rw (an-office r q (at-if1 .if1 .left), a-message r m (at-if2 .if2 .left), not-barred r q t, is-in-hand r q m at, c .if5 .taken)
 
 cast-is-signed : tie.Need-cast-is-signed
 cast-is-signed c = search needs
@@ -92,26 +109,42 @@ is-signed-requires c κs = search needs
 returns-6 : tie.Need-returns-6
 unfolding register votes stage trusted first choose whole
 returns-6 c =
-    let r : Register =
-    whole (c .before .before .before .before .before .before .before .before .before .before .before .before .before .before .before .args .head) [] [] [] [] (c .before .before .before .before .before .before .before .before .before .before .before .before .before .before .before .args .votes .now) (c .before .before .before .before .before .before .before .before .before .before .before .before .before .before .before .args .signers .now) (c .before .before .before .before .before .before .before .before .before .before .before .before .before .before .before .args .subjects .now) (c .before .before .before .before .before .before .before .before .before .before .before .before .before .before .before .args .places .now) [] in
-    let q : ℕ = c .before .before .before .before .before .before .before .before .before .before .before .before .before .before .before .args .office .0 in
-    let m : ℕ = c .before .before .before .before .before .before .before .before .before .before .before .before .before .before .before .args .message .0 in
-    let t : trusted r q ≡ true = sym (c .before .before .before .before .before .before .before .before .before .before .trusted-at .ensures) ∙ not-false _ (c .before .before .before .before .before .before .before .before .before .if3 .left) in
-    let at : stage r q m ≡ 2 = sym (c .before .before .before .before .before .before .before .before .stage-of .ensures) ∙ c .before .before .before .before .before .before .before .if4 .left in
+    let at-if5 = c .before .before .before .before .before in
+    let at-if4 = at-if5 .before .before in
+    let at-stage-of = at-if4 .before in
+    let at-if3 = at-stage-of .before in
+    let at-trusted-at = at-if3 .before in
+    let at-if2 = at-trusted-at .before in
+    let at-if1 = at-if2 .before .before in
+    let entry = at-if1 .before .before in
+    let a = entry .args in
+    let r : Register = whole (a .head) [] [] [] [] (a .votes .now) (a .signers .now) (a .subjects .now) (a .places .now) [] in
+    let q : ℕ = a .office .0 in
+    let m : ℕ = a .message .0 in
+    let t : trusted r q ≡ true = sym (at-trusted-at .trusted-at .ensures) ∙ not-false _ (at-if3 .if3 .left) in
+    let at : stage r q m ≡ 2 = sym (at-stage-of .stage-of .ensures) ∙ at-if4 .if4 .left in
     let e : entered r q m ≡ c .before .is-signed .result = entered-in r q m t ∙ sym (c .before .is-signed .ensures) in
-    rw (an-office r q (c .before .before .before .before .before .before .before .before .before .before .before .before .before .if1 .left), a-message r m (c .before .before .before .before .before .before .before .before .before .before .before .if2 .left), not-barred r q t, is-in-hand r q m at, c .before .before .before .before .before .if5 .left, e, c .if6 .taken)
+    rw (an-office r q (at-if1 .if1 .left), a-message r m (at-if2 .if2 .left), not-barred r q t, is-in-hand r q m at, at-if5 .if5 .left, e, c .if6 .taken)
 
 returns-7 : tie.Need-returns-7
 unfolding register votes stage trusted first choose whole
 returns-7 c =
-    let r : Register =
-    whole (c .before .before .before .before .before .before .before .before .before .before .before .before .before .before .before .args .head) [] [] [] [] (c .before .before .before .before .before .before .before .before .before .before .before .before .before .before .before .args .votes .now) (c .before .before .before .before .before .before .before .before .before .before .before .before .before .before .before .args .signers .now) (c .before .before .before .before .before .before .before .before .before .before .before .before .before .before .before .args .subjects .now) (c .before .before .before .before .before .before .before .before .before .before .before .before .before .before .before .args .places .now) [] in
-    let q : ℕ = c .before .before .before .before .before .before .before .before .before .before .before .before .before .before .before .args .office .0 in
-    let m : ℕ = c .before .before .before .before .before .before .before .before .before .before .before .before .before .before .before .args .message .0 in
-    let t : trusted r q ≡ true = sym (c .before .before .before .before .before .before .before .before .before .before .trusted-at .ensures) ∙ not-false _ (c .before .before .before .before .before .before .before .before .before .if3 .left) in
-    let at : stage r q m ≡ 2 = sym (c .before .before .before .before .before .before .before .before .stage-of .ensures) ∙ c .before .before .before .before .before .before .before .if4 .left in
+    let at-if5 = c .before .before .before .before .before in
+    let at-if4 = at-if5 .before .before in
+    let at-stage-of = at-if4 .before in
+    let at-if3 = at-stage-of .before in
+    let at-trusted-at = at-if3 .before in
+    let at-if2 = at-trusted-at .before in
+    let at-if1 = at-if2 .before .before in
+    let entry = at-if1 .before .before in
+    let a = entry .args in
+    let r : Register = whole (a .head) [] [] [] [] (a .votes .now) (a .signers .now) (a .subjects .now) (a .places .now) [] in
+    let q : ℕ = a .office .0 in
+    let m : ℕ = a .message .0 in
+    let t : trusted r q ≡ true = sym (at-trusted-at .trusted-at .ensures) ∙ not-false _ (at-if3 .if3 .left) in
+    let at : stage r q m ≡ 2 = sym (at-stage-of .stage-of .ensures) ∙ at-if4 .if4 .left in
     let e : entered r q m ≡ c .before .is-signed .result = entered-in r q m t ∙ sym (c .before .is-signed .ensures) in
-    rw (an-office r q (c .before .before .before .before .before .before .before .before .before .before .before .before .before .if1 .left), a-message r m (c .before .before .before .before .before .before .before .before .before .before .before .if2 .left), not-barred r q t, is-in-hand r q m at, c .before .before .before .before .before .if5 .left, e, c .if6 .left)
+    rw (an-office r q (at-if1 .if1 .left), a-message r m (at-if2 .if2 .left), not-barred r q t, is-in-hand r q m at, at-if5 .if5 .left, e, c .if6 .left)
 
 pub enter-refusal-spec : {M : Type 1} → statement M
 enter-refusal-spec =

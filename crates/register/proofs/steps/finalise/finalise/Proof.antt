@@ -33,8 +33,11 @@ headed-requires c κs = search needs
 returns-2 : tie.Need-returns-2
 unfolding finalised
 returns-2 c =
-    rw (c .headed .ensures, c .before .ended .ensures, c .before .before .before .parent-at .ensures)
-    (answer-accepted _ _ _ _ (c .before .before .before .before .before .finalise-refusal .ensures) (c .before .before .before .before .if1 .left))
+    let at-parent-at = c .before .before .before in
+    let at-if1 = at-parent-at .before in
+    let at-finalise-refusal = at-if1 .before in
+    rw (c .headed .ensures, c .before .ended .ensures, at-parent-at .parent-at .ensures)
+    (answer-accepted _ _ _ _ (at-finalise-refusal .finalise-refusal .ensures) (at-if1 .if1 .left))
 
 pub finalise-spec : {M : Type 1} → statement M
 finalise-spec =

@@ -27,15 +27,28 @@ unfolding finalise noOffice noBlock barred notFinal trusted first choose whole
 returns-3 c = simp (lt-leb _ _ (c .before .before .before .before .if1 .left), le-ltb _ _ (c .before .before .if2 .left), ← (c .before .trusted-at .ensures), c .if3 .taken)
 
 is-final-requires : tie.Need-is-final-requires
-is-final-requires c κs = (c .before .before .before .before .before .before .pre .0, c .before .before .before .before .before .before .pre .1, c .before .before .if2 .left, sym (c .before .trusted-at .ensures) ∙ not-false _ (c .if3 .left))
+is-final-requires c κs =
+    let at-if2 = c .before .before in
+    let entry = at-if2 .before .before .before .before in
+    (entry .pre .0, entry .pre .1, at-if2 .if2 .left, sym (c .before .trusted-at .ensures) ∙ not-false _ (c .if3 .left))
 
 returns-4 : tie.Need-returns-4
 unfolding finalise noOffice noBlock barred notFinal trusted first choose whole
-returns-4 c = simp (lt-leb _ _ (c .before .before .before .before .before .before .if1 .left), le-ltb _ _ (c .before .before .before .before .if2 .left), ← (c .before .before .before .trusted-at .ensures), c .before .before .if3 .left, ← (c .before .is-final .ensures), c .if4 .taken)
+returns-4 c =
+    let at-if3 = c .before .before in
+    let at-trusted-at = at-if3 .before in
+    let at-if2 = at-trusted-at .before in
+    let at-if1 = at-if2 .before .before in
+    simp (lt-leb _ _ (at-if1 .if1 .left), le-ltb _ _ (at-if2 .if2 .left), ← (at-trusted-at .trusted-at .ensures), at-if3 .if3 .left, ← (c .before .is-final .ensures), c .if4 .taken)
 
 returns-5 : tie.Need-returns-5
 unfolding finalise noOffice noBlock barred notFinal trusted first choose whole
-returns-5 c = simp (lt-leb _ _ (c .before .before .before .before .before .before .if1 .left), le-ltb _ _ (c .before .before .before .before .if2 .left), ← (c .before .before .before .trusted-at .ensures), c .before .before .if3 .left, ← (c .before .is-final .ensures), c .if4 .left)
+returns-5 c =
+    let at-if3 = c .before .before in
+    let at-trusted-at = at-if3 .before in
+    let at-if2 = at-trusted-at .before in
+    let at-if1 = at-if2 .before .before in
+    simp (lt-leb _ _ (at-if1 .if1 .left), le-ltb _ _ (at-if2 .if2 .left), ← (at-trusted-at .trusted-at .ensures), at-if3 .if3 .left, ← (c .before .is-final .ensures), c .if4 .left)
 
 pub finalise-refusal-spec : {M : Type 1} → statement M
 finalise-refusal-spec =

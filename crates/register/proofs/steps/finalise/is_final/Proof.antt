@@ -24,10 +24,14 @@ are-consecutive-requires c κs = search needs
 returns : tie.Need-returns
 unfolding parentOf epochOf both whole
 returns c =
-    let r : Register = whole (c .before .before .before .before .args .head) [] (c .before .before .before .before .args .parents .now) (c .before .before .before .before .args .epochs .now) [] [] (c .before .before .before .before .args .signers .now) (c .before .before .before .before .args .subjects .now) (c .before .before .before .before .args .places .now) [] in
-    let q : ℕ = c .before .before .before .before .args .q in
-    let b : ℕ = c .before .before .before .before .args .b in
-    rw (finalises-by r q b _ _ (c .before .before .before .parent-at .ensures) (c .before .before .parent-at2 .ensures), ← (c .before .are-consecutive .ensures), not-true (c .before .are-consecutive .result) (c .if1 .taken))
+    let at-parent-at2 = c .before .before in
+    let at-parent-at = at-parent-at2 .before in
+    let entry = at-parent-at .before in
+    let a = entry .args in
+    let r : Register = whole (a .head) [] (a .parents .now) (a .epochs .now) [] [] (a .signers .now) (a .subjects .now) (a .places .now) [] in
+    let q : ℕ = a .q in
+    let b : ℕ = a .b in
+    rw (finalises-by r q b _ _ (at-parent-at .parent-at .ensures) (at-parent-at2 .parent-at2 .ensures), ← (c .before .are-consecutive .ensures), not-true (c .before .are-consecutive .result) (c .if1 .taken))
 
 cast-count : tie.Need-cast-count
 cast-count c = search needs
@@ -38,10 +42,16 @@ is-notarised-requires c κs = search needs
 returns-2 : tie.Need-returns-2
 unfolding trusted parentOf epochOf both whole
 returns-2 c =
-    let r : Register = whole (c .before .before .before .before .before .before .args .head) [] (c .before .before .before .before .before .before .args .parents .now) (c .before .before .before .before .before .before .args .epochs .now) [] [] (c .before .before .before .before .before .before .args .signers .now) (c .before .before .before .before .before .before .args .subjects .now) (c .before .before .before .before .before .before .args .places .now) [] in
-    let q : ℕ = c .before .before .before .before .before .before .args .q in
-    let b : ℕ = c .before .before .before .before .before .before .args .b in
-    rw (finalises-by r q b _ _ (c .before .before .before .before .before .parent-at .ensures) (c .before .before .before .before .parent-at2 .ensures), ← (c .before .before .before .are-consecutive .ensures), not-false (c .before .before .before .are-consecutive .result) (c .before .before .if1 .left), chain-notarised-by r q (c .before .before .before .before .before .before .pre .3) b)
+    let at-if1 = c .before .before in
+    let at-are-consecutive = at-if1 .before in
+    let at-parent-at2 = at-are-consecutive .before in
+    let at-parent-at = at-parent-at2 .before in
+    let entry = at-parent-at .before in
+    let a = entry .args in
+    let r : Register = whole (a .head) [] (a .parents .now) (a .epochs .now) [] [] (a .signers .now) (a .subjects .now) (a .places .now) [] in
+    let q : ℕ = a .q in
+    let b : ℕ = a .b in
+    rw (finalises-by r q b _ _ (at-parent-at .parent-at .ensures) (at-parent-at2 .parent-at2 .ensures), ← (at-are-consecutive .are-consecutive .ensures), not-false (at-are-consecutive .are-consecutive .result) (at-if1 .if1 .left), chain-notarised-by r q (entry .pre .3) b)
     (c .is-notarised .ensures)
 
 pub is-final-spec : {M : Type 1} → statement M

@@ -31,11 +31,14 @@ stage-requires c κs = search needs
 returns-3 : tie.Need-returns-3
 unfolding whole trusted
 returns-3 c =
+    let at-if2 = c .before .before in
+    let at-trusted-at = at-if2 .before in
+    let at-if1 = at-trusted-at .before in
     sym
     (placed-stage _ _ _ _
     (record {
-      trusted = sym (c .before .before .before .trusted-at .ensures) ∙ not-false _ (c .before .before .if2 .left);
-      sent = c .before .before .before .before .if1 .left;
+      trusted = sym (at-trusted-at .trusted-at .ensures) ∙ not-false _ (at-if2 .if2 .left);
+      sent = at-if1 .if1 .left;
       digit = sym (c .stage .ensures);
     }))
 

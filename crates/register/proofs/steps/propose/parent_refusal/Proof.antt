@@ -39,10 +39,12 @@ extend-refusal-requires c κs =
 returns-2 : tie.Need-returns-2
 unfolding propose noOffice noBlock barred trusted acted leads leaderOf until since choose whole positive both notLongest longest longer chainNotarised valid chain chainLength parentOf epochOf notarised signers signed inView stage says epochs
 returns-2 c =
-    let a = c .before .before .before .args in
+    let at-leader-refusal = c .before .before in
+    let entry = at-leader-refusal .before in
+    let a = entry .args in
     let r : Register = whole (a .head) (a .leaders .now) (a .parents .now) (a .epochs .now) [] [] (a .signers .now) (a .subjects .now) (a .places .now) [] in
     let tests : List Refusal = until 25 (propose r (a .office) (a .parent) (a .payload) .tests) in
-    let early : c .before .before .leader-refusal .result ≡ first (until 19 tests) = c .before .before .leader-refusal .ensures in
+    let early : at-leader-refusal .leader-refusal .result ≡ first (until 19 tests) = at-leader-refusal .leader-refusal .ensures in
     let late : c .extend-refusal .result ≡ first (since 19 tests) = c .extend-refusal .ensures in
     late ∙ sym (first-late 19 tests refl (sym early ∙ c .before .if1 .left))
 

@@ -39,10 +39,12 @@ refused-requires c κs = search needs
 
 returns : tie.Need-returns
 returns c =
-    let a = c .before .before .before .before .args in
+    let at-parent-refusal = c .before .before in
+    let entry = at-parent-refusal .before .before in
+    let a = entry .args in
     let r : Register = whole (a .still .head) (a .leaders .now) (a .parents .now) (a .epochs .now) (a .payloads .now) [] (a .signers .now) (a .subjects .now) (a .places .now) [] in
     let tests : List Refusal = propose r (a .office) (a .parent) (a .payload) .tests in
-    let early : c .before .before .parent-refusal .result ≡ first (until 25 tests) = c .before .before .parent-refusal .ensures ∙ unnamed _ _ _ _ _ _ _ _ _ _ _ in
+    let early : at-parent-refusal .parent-refusal .result ≡ first (until 25 tests) = at-parent-refusal .parent-refusal .ensures ∙ unnamed _ _ _ _ _ _ _ _ _ _ _ in
     c .refused .ensures ∙ answer-refused _ _ _ _ (early ∙ sym (first-early 25 tests (λ none. c .before .if1 .taken (early ∙ none)))) (c .before .if1 .taken)
 
 block-number-requires : tie.Need-block-number-requires
@@ -57,17 +59,22 @@ refused-requires-2 c κs = search needs
 returns-2 : tie.Need-returns-2
 unfolding answer propose first since choose whole named positive both
 returns-2 c =
-    let a = c .before .before .before .before .before .before .before .args in
+    let at-name-block = c .before .before in
+    let at-block-number = at-name-block .before in
+    let at-if1 = at-block-number .before in
+    let at-parent-refusal = at-if1 .before in
+    let entry = at-parent-refusal .before .before in
+    let a = entry .args in
     let p : ℕ = a .parent .0 in
     let e : ℕ = a .still .head .epoch .0 in
     let w : ℕ = a .payload in
     let r : Register = whole (a .still .head) (a .leaders .now) (a .parents .now) (a .epochs .now) (a .payloads .now) [] (a .signers .now) (a .subjects .now) (a .places .now) [] in
     let tests : List Refusal = propose r (a .office) (a .parent) w .tests in
-    let early : c .before .before .before .before .before .parent-refusal .result ≡ first (until 25 tests) = c .before .before .before .before .before .parent-refusal .ensures ∙ unnamed _ _ _ _ _ _ _ _ _ _ _ in
-    let rest : first tests ≡ first (since 25 tests) = first-late 25 tests refl (sym early ∙ c .before .before .before .before .if1 .left) in
-    let last : c .before .before .before .block-number .result ≡ r .last .0 = c .before .before .before .block-number .ensures .0 in
-    let b : c .before .before .name-block .result ≡ named r p e w = rw last at (c .before .before .name-block .ensures) in
-    let full : blocksFull r p e w ≡ true = is-full r p e w _ b (c .before .before .before .block-number .ensures .1) (c .before .if2 .taken) in
+    let early : at-parent-refusal .parent-refusal .result ≡ first (until 25 tests) = at-parent-refusal .parent-refusal .ensures ∙ unnamed _ _ _ _ _ _ _ _ _ _ _ in
+    let rest : first tests ≡ first (since 25 tests) = first-late 25 tests refl (sym early ∙ at-if1 .if1 .left) in
+    let last : at-block-number .block-number .result ≡ r .last .0 = at-block-number .block-number .ensures .0 in
+    let b : at-name-block .name-block .result ≡ named r p e w = rw last at (at-name-block .name-block .ensures) in
+    let full : blocksFull r p e w ≡ true = is-full r p e w _ b (at-block-number .block-number .ensures .1) (c .before .if2 .taken) in
     c .refused2 .ensures ∙ rw (rest, full)
 
 refused-requires-3 : tie.Need-refused-requires-3
@@ -76,41 +83,57 @@ refused-requires-3 c κs = search needs
 returns-3 : tie.Need-returns-3
 unfolding answer propose first since choose whole named positive both
 returns-3 c =
-    let a = c .before .before .before .before .before .before .before .before .before .args in
+    let at-if2 = c .before .before .before in
+    let at-name-block = at-if2 .before in
+    let at-block-number = at-name-block .before in
+    let at-if1 = at-block-number .before in
+    let at-parent-refusal = at-if1 .before in
+    let entry = at-parent-refusal .before .before in
+    let a = entry .args in
     let p : ℕ = a .parent .0 in
     let e : ℕ = a .still .head .epoch .0 in
     let w : ℕ = a .payload in
     let r : Register = whole (a .still .head) (a .leaders .now) (a .parents .now) (a .epochs .now) (a .payloads .now) [] (a .signers .now) (a .subjects .now) (a .places .now) [] in
     let tests : List Refusal = propose r (a .office) (a .parent) w .tests in
-    let early : c .before .before .before .before .before .before .before .parent-refusal .result ≡ first (until 25 tests) = c .before .before .before .before .before .before .before .parent-refusal .ensures ∙ unnamed _ _ _ _ _ _ _ _ _ _ _ in
-    let rest : first tests ≡ first (since 25 tests) = first-late 25 tests refl (sym early ∙ c .before .before .before .before .before .before .if1 .left) in
-    let last : c .before .before .before .before .before .block-number .result ≡ r .last .0 = c .before .before .before .before .before .block-number .ensures .0 in
-    let b : c .before .before .before .before .name-block .result ≡ named r p e w = rw last at (c .before .before .before .before .name-block .ensures) in
-    let full : blocksFull r p e w ≡ false = not-full r p e w _ b (c .before .before .before .if2 .left) in
+    let early : at-parent-refusal .parent-refusal .result ≡ first (until 25 tests) = at-parent-refusal .parent-refusal .ensures ∙ unnamed _ _ _ _ _ _ _ _ _ _ _ in
+    let rest : first tests ≡ first (since 25 tests) = first-late 25 tests refl (sym early ∙ at-if1 .if1 .left) in
+    let last : at-block-number .block-number .result ≡ r .last .0 = at-block-number .block-number .ensures .0 in
+    let b : at-name-block .name-block .result ≡ named r p e w = rw last at (at-name-block .name-block .ensures) in
+    let full : blocksFull r p e w ≡ false = not-full r p e w _ b (at-if2 .if2 .left) in
     c .refused3 .ensures ∙ rw (rest, full, no-room r (c .before .if3 .taken))
 
 send-proposal-requires : tie.Need-send-proposal-requires
 unfolding whole
 send-proposal-requires c κs =
-    let a = c .before .before .before .before .before .before .before .before .args in
-    let few = c .before .before .before .before .before .before .before .before .pre .0 in
-    let ready = propose-ready _ (a .office) (a .parent) (a .payload) (sym (c .before .before .before .before .before .before .parent-refusal .ensures) ∙ c .before .before .before .before .before .if1 .left) in
-    (few, c .if3 .left, omega (arith, ready .0, few), ready .1, c .before .before .if2 .left)
+    let at-if2 = c .before .before in
+    let at-if1 = at-if2 .before .before .before in
+    let at-parent-refusal = at-if1 .before in
+    let entry = at-parent-refusal .before .before in
+    let a = entry .args in
+    let few = entry .pre .0 in
+    let ready = propose-ready _ (a .office) (a .parent) (a .payload) (sym (at-parent-refusal .parent-refusal .ensures) ∙ at-if1 .if1 .left) in
+    (few, c .if3 .left, omega (arith, ready .0, few), ready .1, at-if2 .if2 .left)
 
 returns-4 : tie.Need-returns-4
 unfolding answer propose first since choose whole named positive both
 returns-4 c =
-    let a = c .before .before .before .before .before .before .before .before .before .args in
+    let at-if2 = c .before .before .before in
+    let at-name-block = at-if2 .before in
+    let at-block-number = at-name-block .before in
+    let at-if1 = at-block-number .before in
+    let at-parent-refusal = at-if1 .before in
+    let entry = at-parent-refusal .before .before in
+    let a = entry .args in
     let p : ℕ = a .parent .0 in
     let e : ℕ = a .still .head .epoch .0 in
     let w : ℕ = a .payload in
     let r : Register = whole (a .still .head) (a .leaders .now) (a .parents .now) (a .epochs .now) (a .payloads .now) [] (a .signers .now) (a .subjects .now) (a .places .now) [] in
     let tests : List Refusal = propose r (a .office) (a .parent) w .tests in
-    let early : c .before .before .before .before .before .before .before .parent-refusal .result ≡ first (until 25 tests) = c .before .before .before .before .before .before .before .parent-refusal .ensures ∙ unnamed _ _ _ _ _ _ _ _ _ _ _ in
-    let rest : first tests ≡ first (since 25 tests) = first-late 25 tests refl (sym early ∙ c .before .before .before .before .before .before .if1 .left) in
-    let last : c .before .before .before .before .before .block-number .result ≡ r .last .0 = c .before .before .before .before .before .block-number .ensures .0 in
-    let b : c .before .before .before .before .name-block .result ≡ named r p e w = rw last at (c .before .before .before .before .name-block .ensures) in
-    let full : blocksFull r p e w ≡ false = not-full r p e w _ b (c .before .before .before .if2 .left) in
+    let early : at-parent-refusal .parent-refusal .result ≡ first (until 25 tests) = at-parent-refusal .parent-refusal .ensures ∙ unnamed _ _ _ _ _ _ _ _ _ _ _ in
+    let rest : first tests ≡ first (since 25 tests) = first-late 25 tests refl (sym early ∙ at-if1 .if1 .left) in
+    let last : at-block-number .block-number .result ≡ r .last .0 = at-block-number .block-number .ensures .0 in
+    let b : at-name-block .name-block .result ≡ named r p e w = rw last at (at-name-block .name-block .ensures) in
+    let full : blocksFull r p e w ≡ false = not-full r p e w _ b (at-if2 .if2 .left) in
     c .send-proposal .ensures ∙ rw (b, rest, full, has-room r (c .before .if3 .left))
 
 pub propose-spec : {M : Type 1} → statement M

@@ -50,8 +50,9 @@ sent-requires c κs =
 acted-requires : tie.Need-acted-requires
 unfolding sending sentHead
 acted-requires c κs =
-    let a = c .before .before .before .before .args in
-    let known = c .before .before .before .before .pre in
+    let entry = c .before .before .before .before in
+    let a = entry .args in
+    let known = entry .pre in
     (known .2, rw (c .sent .ensures, c .before .named .ensures, named-acted (a .still) (a .b) (a .p) (a .still .head .epoch .0) (a .payload)) (known .3))
 
 returns : tie.Need-returns

@@ -29,26 +29,38 @@ returns c =
 raised-requires : tie.Need-raised-requires
 unfolding whole trusted
 raised-requires c κs =
-    let r : Register = whole (c .before .before .before .args .head) [] [] [] [] [] [] [] [] [] in
-    let q : ℕ = c .before .before .before .args .actor in
+    let at-spread = c .before .before in
+    let entry = at-spread .before in
+    let a = entry .args in
+    let r : Register = whole (a .head) [] [] [] [] [] [] [] [] [] in
+    let q : ℕ = a .actor in
     let t : trusted r q ≡ true = sym (c .before .trusted-at .ensures) ∙ not-false _ (c .if1 .left) in
-    (omega (arith, trusted-below r q t), rw (c .before .before .spread .ensures) (room-once r q t))
+    (omega (arith, trusted-below r q t), rw (at-spread .spread .ensures) (room-once r q t))
 
 raised-requires-2 : tie.Need-raised-requires-2
 unfolding whole trusted
 raised-requires-2 c κs =
-    let r : Register = whole (c .before .before .before .before .args .head) [] [] [] [] [] [] [] [] [] in
-    let q : ℕ = c .before .before .before .before .args .actor in
-    let t : trusted r q ≡ true = sym (c .before .before .trusted-at .ensures) ∙ not-false _ (c .before .if1 .left) in
-    (omega (arith, trusted-below r q t), rw (c .raised .ensures, c .before .before .before .spread .ensures) (room-twice r q t))
+    let at-trusted-at = c .before .before in
+    let at-spread = at-trusted-at .before in
+    let entry = at-spread .before in
+    let a = entry .args in
+    let r : Register = whole (a .head) [] [] [] [] [] [] [] [] [] in
+    let q : ℕ = a .actor in
+    let t : trusted r q ≡ true = sym (at-trusted-at .trusted-at .ensures) ∙ not-false _ (c .before .if1 .left) in
+    (omega (arith, trusted-below r q t), rw (c .raised .ensures, at-spread .spread .ensures) (room-twice r q t))
 
 returns-2 : tie.Need-returns-2
 unfolding whole trusted
 returns-2 c =
-    let r : Register = whole (c .before .before .before .before .before .args .head) [] [] [] [] [] [] [] [] [] in
-    let q : ℕ = c .before .before .before .before .before .args .actor in
-    let t : trusted r q ≡ true = sym (c .before .before .before .trusted-at .ensures) ∙ not-false _ (c .before .before .if1 .left) in
-    rw (c .raised2 .ensures, c .before .raised .ensures, c .before .before .before .before .spread .ensures) (sent-trusted r q t)
+    let at-if1 = c .before .before in
+    let at-trusted-at = at-if1 .before in
+    let at-spread = at-trusted-at .before in
+    let entry = at-spread .before in
+    let a = entry .args in
+    let r : Register = whole (a .head) [] [] [] [] [] [] [] [] [] in
+    let q : ℕ = a .actor in
+    let t : trusted r q ≡ true = sym (at-trusted-at .trusted-at .ensures) ∙ not-false _ (at-if1 .if1 .left) in
+    rw (c .raised2 .ensures, c .before .raised .ensures, at-spread .spread .ensures) (sent-trusted r q t)
 
 pub sent-place-spec : {M : Type 1} → statement M
 sent-place-spec =

@@ -28,12 +28,18 @@ moved-requires c κs = search needs
 acted-requires : tie.Need-acted-requires
 unfolding moving sending sentHead
 acted-requires c κs =
-    let known = c .before .before .before .before .before .before .before .pre in
-    (known .3 .office, rw (c .moved .ensures, c .before .before .before .sent .ensures) (known .2))
+    let at-sent = c .before .before .before in
+    let entry = at-sent .before .before .before .before in
+    let known = entry .pre in
+    (known .3 .office, rw (c .moved .ensures, at-sent .sent .ensures) (known .2))
 
 returns : tie.Need-returns
 unfolding voted moving sending
-returns c = rw (c .acted .ensures, c .before .moved .ensures, c .before .before .before .before .sent .ensures, c .before .before .raised .ensures, c .before .before .before .before .before .before .sent-place .ensures)
+returns c =
+    let at-raised = c .before .before in
+    let at-sent = at-raised .before .before in
+    let at-sent-place = at-sent .before .before in
+    rw (c .acted .ensures, c .before .moved .ensures, at-sent .sent .ensures, at-raised .raised .ensures, at-sent-place .sent-place .ensures)
 
 pub cast-spec : {M : Type 1} → statement M
 cast-spec =

@@ -25,9 +25,11 @@ returns c =
 returns-2 : tie.Need-returns-2
 unfolding vote first until choose whole
 returns-2 c =
-    let a = c .before .before .before .before .before .args in
+    let at-if1 = c .before .before .before in
+    let entry = at-if1 .before .before in
+    let a = entry .args in
     let r : Register = whole (a .head) [] [] [] [] [] [] [] [] [] in
-    rw (an-office r (a .office .0) (c .before .before .before .if1 .left), no-message r (a .message .0) (c .if2 .taken))
+    rw (an-office r (a .office .0) (at-if1 .if1 .left), no-message r (a .message .0) (c .if2 .taken))
 
 trusted-at-requires : tie.Need-trusted-at-requires
 trusted-at-requires c κs = search needs
@@ -35,11 +37,14 @@ trusted-at-requires c κs = search needs
 returns-3 : tie.Need-returns-3
 unfolding vote first until choose whole trusted
 returns-3 c =
-    let a = c .before .before .before .before .before .before .before .args in
+    let at-if2 = c .before .before in
+    let at-if1 = at-if2 .before .before .before in
+    let entry = at-if1 .before .before in
+    let a = entry .args in
     let r : Register = whole (a .head) [] [] [] [] [] [] [] [] [] in
     let q : ℕ = a .office .0 in
     let t : trusted r q ≡ false = sym (c .before .trusted-at .ensures) ∙ not-true _ (c .if3 .taken) in
-    rw (an-office r q (c .before .before .before .before .before .if1 .left), a-message r (a .message .0) (c .before .before .if2 .left), is-barred r q t)
+    rw (an-office r q (at-if1 .if1 .left), a-message r (a .message .0) (at-if2 .if2 .left), is-barred r q t)
 
 has-requires : tie.Need-has-requires
 has-requires c κs = search needs
@@ -47,20 +52,30 @@ has-requires c κs = search needs
 returns-4 : tie.Need-returns-4
 unfolding vote acted first until choose whole trusted
 returns-4 c =
-    let a = c .before .before .before .before .before .before .before .before .before .args in
+    let at-if3 = c .before .before in
+    let at-trusted-at = at-if3 .before in
+    let at-if2 = at-trusted-at .before in
+    let at-if1 = at-if2 .before .before .before in
+    let entry = at-if1 .before .before in
+    let a = entry .args in
     let r : Register = whole (a .head) [] [] [] [] [] [] [] [] [] in
     let q : ℕ = a .office .0 in
-    let t : trusted r q ≡ true = sym (c .before .before .before .trusted-at .ensures) ∙ not-false _ (c .before .before .if3 .left) in
-    rw (an-office r q (c .before .before .before .before .before .before .before .if1 .left), a-message r (a .message .0) (c .before .before .before .before .if2 .left), not-barred r q t, ← (c .before .has .ensures), c .if4 .taken)
+    let t : trusted r q ≡ true = sym (at-trusted-at .trusted-at .ensures) ∙ not-false _ (at-if3 .if3 .left) in
+    rw (an-office r q (at-if1 .if1 .left), a-message r (a .message .0) (at-if2 .if2 .left), not-barred r q t, ← (c .before .has .ensures), c .if4 .taken)
 
 returns-5 : tie.Need-returns-5
 unfolding vote acted first until choose whole trusted
 returns-5 c =
-    let a = c .before .before .before .before .before .before .before .before .before .args in
+    let at-if3 = c .before .before in
+    let at-trusted-at = at-if3 .before in
+    let at-if2 = at-trusted-at .before in
+    let at-if1 = at-if2 .before .before .before in
+    let entry = at-if1 .before .before in
+    let a = entry .args in
     let r : Register = whole (a .head) [] [] [] [] [] [] [] [] [] in
     let q : ℕ = a .office .0 in
-    let t : trusted r q ≡ true = sym (c .before .before .before .trusted-at .ensures) ∙ not-false _ (c .before .before .if3 .left) in
-    rw (an-office r q (c .before .before .before .before .before .before .before .if1 .left), a-message r (a .message .0) (c .before .before .before .before .if2 .left), not-barred r q t, ← (c .before .has .ensures), c .if4 .left)
+    let t : trusted r q ≡ true = sym (at-trusted-at .trusted-at .ensures) ∙ not-false _ (at-if3 .if3 .left) in
+    rw (an-office r q (at-if1 .if1 .left), a-message r (a .message .0) (at-if2 .if2 .left), not-barred r q t, ← (c .before .has .ensures), c .if4 .left)
 
 pub ready-refusal-spec : {M : Type 1} → statement M
 ready-refusal-spec =

@@ -33,9 +33,10 @@ is-signed-requires c κs = search needs
 returns : tie.Need-returns
 unfolding vote first since choose whole trusted
 returns c =
-    let a = c .before .before .before .before .before .before .args in
+    let entry = c .before .before .before .before .before .before in
+    let a = entry .args in
     let r : Register = whole (a .head) [] (a .parents .now) (a .epochs .now) [] [] (a .signers .now) (a .subjects .now) (a .places .now) [] in
-    rw (entered-in r (a .office .0) (a .message .0) (c .before .before .before .before .before .before .pre .2) ∙ sym (c .before .is-signed .ensures) ∙ c .if1 .taken)
+    rw (entered-in r (a .office .0) (a .message .0) (entry .pre .2) ∙ sym (c .before .is-signed .ensures) ∙ c .if1 .taken)
 
 parent-at-requires : tie.Need-parent-at-requires
 parent-at-requires c κs = search needs
@@ -46,40 +47,60 @@ epoch-at-requires c κs = search needs
 extend-refusal-requires : tie.Need-extend-refusal-requires
 unfolding whole parentOf
 extend-refusal-requires c κs =
-    let a = c .before .before .before .before .before .before .before .before .args in
+    let entry = c .before .before .before .before .before .before .before .before in
+    let a = entry .args in
     let r : Register = whole (a .head) [] (a .parents .now) (a .epochs .now) [] [] (a .signers .now) (a .subjects .now) (a .places .now) [] in
-    let known = c .before .before .before .before .before .before .before .before .pre in
+    let known = entry .pre in
     (known .0, known .1, known .2, rw (c .before .parent-at .ensures) (parent-last r _))
 
 returns-2 : tie.Need-returns-2
 unfolding vote epochs epochOf parentOf sentOf first until since choose whole trusted
 returns-2 c =
-    let a = c .before .before .before .before .before .before .before .before .before .before .args in
+    let at-epoch-at = c .before .before in
+    let at-parent-at = at-epoch-at .before in
+    let at-if1 = at-parent-at .before in
+    let at-is-signed = at-if1 .before in
+    let entry = at-is-signed .before .before .before .before .before in
+    let a = entry .args in
     let r : Register = whole (a .head) [] (a .parents .now) (a .epochs .now) [] [] (a .signers .now) (a .subjects .now) (a .places .now) [] in
-    let new : entered r (a .office .0) (a .message .0) ≡ false = entered-in r (a .office .0) (a .message .0) (c .before .before .before .before .before .before .before .before .before .before .pre .2) ∙ sym (c .before .before .before .before .before .is-signed .ensures) ∙ c .before .before .before .before .if1 .left in
+    let new : entered r (a .office .0) (a .message .0) ≡ false = entered-in r (a .office .0) (a .message .0) (entry .pre .2) ∙ sym (at-is-signed .is-signed .ensures) ∙ at-if1 .if1 .left in
     let tests : List Refusal = since 19 (vote r (a .office) (a .message) .tests) in
-    let e : c .before .extend-refusal .result ≡ first (until 26 tests) = c .before .extend-refusal .ensures ∙ rw (c .before .before .before .parent-at .ensures, c .before .before .epoch-at .ensures) in
+    let e : c .before .extend-refusal .result ≡ first (until 26 tests) = c .before .extend-refusal .ensures ∙ rw (at-parent-at .parent-at .ensures, at-epoch-at .epoch-at .ensures) in
     rw new (e ∙ sym (first-early 26 tests (λ none. c .if2 .taken (e ∙ none))))
 
 returns-3 : tie.Need-returns-3
 unfolding vote epochs epochOf parentOf sentOf first until since choose whole trusted positive both
 returns-3 c =
-    let a = c .before .before .before .before .before .before .before .before .before .before .before .before .args in
+    let at-if2 = c .before .before in
+    let at-extend-refusal = at-if2 .before in
+    let at-epoch-at = at-extend-refusal .before in
+    let at-parent-at = at-epoch-at .before in
+    let at-if1 = at-parent-at .before in
+    let at-is-signed = at-if1 .before in
+    let entry = at-is-signed .before .before .before .before .before in
+    let a = entry .args in
     let r : Register = whole (a .head) [] (a .parents .now) (a .epochs .now) [] [] (a .signers .now) (a .subjects .now) (a .places .now) [] in
-    let new : entered r (a .office .0) (a .message .0) ≡ false = entered-in r (a .office .0) (a .message .0) (c .before .before .before .before .before .before .before .before .before .before .before .before .pre .2) ∙ sym (c .before .before .before .before .before .before .before .is-signed .ensures) ∙ c .before .before .before .before .before .before .if1 .left in
+    let new : entered r (a .office .0) (a .message .0) ≡ false = entered-in r (a .office .0) (a .message .0) (entry .pre .2) ∙ sym (at-is-signed .is-signed .ensures) ∙ at-if1 .if1 .left in
     let tests : List Refusal = since 19 (vote r (a .office) (a .message) .tests) in
-    let e : c .before .before .before .extend-refusal .result ≡ first (until 26 tests) = c .before .before .before .extend-refusal .ensures ∙ rw (c .before .before .before .before .before .parent-at .ensures, c .before .before .before .before .epoch-at .ensures) in
-    rw (new, first-late 26 tests refl (sym e ∙ c .before .before .if2 .left), no-room r (c .if3 .taken))
+    let e : at-extend-refusal .extend-refusal .result ≡ first (until 26 tests) = at-extend-refusal .extend-refusal .ensures ∙ rw (at-parent-at .parent-at .ensures, at-epoch-at .epoch-at .ensures) in
+    rw (new, first-late 26 tests refl (sym e ∙ at-if2 .if2 .left), no-room r (c .if3 .taken))
 
 returns-4 : tie.Need-returns-4
 unfolding vote epochs epochOf parentOf sentOf first until since choose whole trusted positive both
 returns-4 c =
-    let a = c .before .before .before .before .before .before .before .before .before .before .before .before .args in
+    let at-if2 = c .before .before in
+    let at-extend-refusal = at-if2 .before in
+    let at-epoch-at = at-extend-refusal .before in
+    let at-parent-at = at-epoch-at .before in
+    let at-if1 = at-parent-at .before in
+    let at-is-signed = at-if1 .before in
+    let entry = at-is-signed .before .before .before .before .before in
+    let a = entry .args in
     let r : Register = whole (a .head) [] (a .parents .now) (a .epochs .now) [] [] (a .signers .now) (a .subjects .now) (a .places .now) [] in
-    let new : entered r (a .office .0) (a .message .0) ≡ false = entered-in r (a .office .0) (a .message .0) (c .before .before .before .before .before .before .before .before .before .before .before .before .pre .2) ∙ sym (c .before .before .before .before .before .before .before .is-signed .ensures) ∙ c .before .before .before .before .before .before .if1 .left in
+    let new : entered r (a .office .0) (a .message .0) ≡ false = entered-in r (a .office .0) (a .message .0) (entry .pre .2) ∙ sym (at-is-signed .is-signed .ensures) ∙ at-if1 .if1 .left in
     let tests : List Refusal = since 19 (vote r (a .office) (a .message) .tests) in
-    let e : c .before .before .before .extend-refusal .result ≡ first (until 26 tests) = c .before .before .before .extend-refusal .ensures ∙ rw (c .before .before .before .before .before .parent-at .ensures, c .before .before .before .before .epoch-at .ensures) in
-    rw (new, first-late 26 tests refl (sym e ∙ c .before .before .if2 .left), has-room r (c .if3 .left))
+    let e : at-extend-refusal .extend-refusal .result ≡ first (until 26 tests) = at-extend-refusal .extend-refusal .ensures ∙ rw (at-parent-at .parent-at .ensures, at-epoch-at .epoch-at .ensures) in
+    rw (new, first-late 26 tests refl (sym e ∙ at-if2 .if2 .left), has-room r (c .if3 .left))
 
 pub view-refusal-spec : {M : Type 1} → statement M
 view-refusal-spec =

@@ -38,31 +38,41 @@ proposal-refusal-requires c κs =
 returns-2 : tie.Need-returns-2
 unfolding vote noOffice noMessage barred trusted acted leads leaderOf notInHand inInbox stage votes offEpoch epochOf sentOf until since choose whole positive both
 returns-2 c =
-    let a = c .before .before .before .before .args in
+    let at-if1 = c .before .before in
+    let at-ready-refusal = at-if1 .before in
+    let entry = at-ready-refusal .before in
+    let a = entry .args in
     let r : Register = whole (a .head) (a .leaders .now) (a .parents .now) (a .epochs .now) [] (a .votes .now) (a .signers .now) (a .subjects .now) (a .places .now) [] in
     let tests : List Refusal = vote r (a .office) (a .message) .tests in
-    let early : c .before .before .before .ready-refusal .result ≡ first (until 14 tests) = c .before .before .before .ready-refusal .ensures in
+    let early : at-ready-refusal .ready-refusal .result ≡ first (until 14 tests) = at-ready-refusal .ready-refusal .ensures in
     let middle : c .before .proposal-refusal .result ≡ first (until 18 (since 14 tests)) = c .before .proposal-refusal .ensures in
-    middle ∙ sym (first-late 14 tests refl (sym early ∙ c .before .before .if1 .left) ∙ first-early 18 (since 14 tests) (λ none. c .if2 .taken (middle ∙ none)))
+    middle ∙ sym (first-late 14 tests refl (sym early ∙ at-if1 .if1 .left) ∙ first-early 18 (since 14 tests) (λ none. c .if2 .taken (middle ∙ none)))
 
 view-refusal-requires : tie.Need-view-refusal-requires
 unfolding whole trusted
 view-refusal-requires c κs =
-    let a = c .before .before .before .before .args in
-    let known = c .before .before .before .before .pre in
-    let found = vote-known _ (a .office) (a .message) (sym (c .before .before .before .ready-refusal .ensures) ∙ c .before .before .if1 .left) in
+    let at-if1 = c .before .before in
+    let at-ready-refusal = at-if1 .before in
+    let entry = at-ready-refusal .before in
+    let a = entry .args in
+    let known = entry .pre in
+    let found = vote-known _ (a .office) (a .message) (sym (at-ready-refusal .ready-refusal .ensures) ∙ at-if1 .if1 .left) in
     (known .0, known .1, found .1, found .0)
 
 returns-3 : tie.Need-returns-3
 unfolding vote noOffice noMessage barred trusted acted leads leaderOf notInHand inInbox stage votes offEpoch epochOf sentOf until since choose whole positive both entered signed inView says notLongest longest longer chainNotarised valid chain chainLength parentOf notarised signers messagesFull
 returns-3 c =
-    let a = c .before .before .before .before .before .args in
+    let at-proposal-refusal = c .before .before in
+    let at-if1 = at-proposal-refusal .before in
+    let at-ready-refusal = at-if1 .before in
+    let entry = at-ready-refusal .before in
+    let a = entry .args in
     let r : Register = whole (a .head) (a .leaders .now) (a .parents .now) (a .epochs .now) [] (a .votes .now) (a .signers .now) (a .subjects .now) (a .places .now) [] in
     let tests : List Refusal = vote r (a .office) (a .message) .tests in
-    let early : c .before .before .before .before .ready-refusal .result ≡ first (until 14 tests) = c .before .before .before .before .ready-refusal .ensures in
-    let middle : c .before .before .proposal-refusal .result ≡ first (until 18 (since 14 tests)) = c .before .before .proposal-refusal .ensures in
+    let early : at-ready-refusal .ready-refusal .result ≡ first (until 14 tests) = at-ready-refusal .ready-refusal .ensures in
+    let middle : at-proposal-refusal .proposal-refusal .result ≡ first (until 18 (since 14 tests)) = at-proposal-refusal .proposal-refusal .ensures in
     let late : c .view-refusal .result ≡ first (since 18 (since 14 tests)) = c .view-refusal .ensures in
-    late ∙ sym (first-late 14 tests refl (sym early ∙ c .before .before .before .if1 .left) ∙ first-late 18 (since 14 tests) refl (sym middle ∙ c .before .if2 .left))
+    late ∙ sym (first-late 14 tests refl (sym early ∙ at-if1 .if1 .left) ∙ first-late 18 (since 14 tests) refl (sym middle ∙ c .before .if2 .left))
 
 pub vote-refusal-spec : {M : Type 1} → statement M
 vote-refusal-spec =

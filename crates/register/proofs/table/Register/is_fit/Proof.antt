@@ -21,7 +21,11 @@ cast-leaders-fit : tie.Need-cast-leaders-fit
 cast-leaders-fit c = search needs
 
 leaders-fit-requires : tie.Need-leaders-fit-requires
-leaders-fit-requires c κs = counts-hold _ _ _ (c .before .before .before .before .before .args .t1 .count) (sym (c .before .before .before .counts-fit .ensures) ∙ not-false _ (c .before .before .if1 .left)) .schedule .1
+leaders-fit-requires c κs =
+    let at-if1 = c .before .before in
+    let at-counts-fit = at-if1 .before in
+    let entry = at-counts-fit .before .before in
+    counts-hold _ _ _ (entry .args .t1 .count) (sym (at-counts-fit .counts-fit .ensures) ∙ not-false _ (at-if1 .if1 .left)) .schedule .1
 
 blocks-fit-requires : tie.Need-blocks-fit-requires
 blocks-fit-requires c κs = search needs
@@ -30,16 +34,29 @@ cast-messages-fit : tie.Need-cast-messages-fit
 cast-messages-fit c = search needs
 
 messages-fit-requires : tie.Need-messages-fit-requires
-messages-fit-requires c κs = counts-hold _ _ _ (c .before .before .before .before .before .before .before .before .before .before .before .before .before .args .t1 .count) (sym (c .before .before .before .before .before .before .before .before .before .before .before .counts-fit .ensures) ∙ not-false _ (c .before .before .before .before .before .before .before .before .before .before .if1 .left)) .messages
+messages-fit-requires c κs =
+    let at-if1 = c .before .before .before .before .before .before .before .before .before .before in
+    let at-counts-fit = at-if1 .before in
+    let entry = at-counts-fit .before .before in
+    counts-hold _ _ _ (entry .args .t1 .count) (sym (at-counts-fit .counts-fit .ensures) ∙ not-false _ (at-if1 .if1 .left)) .messages
 
 finals-fit-requires : tie.Need-finals-fit-requires
-finals-fit-requires c κs = counts-hold _ _ _ (c .before .before .before .before .before .before .before .before .before .before .before .before .before .before .before .before .args .t1 .count) (sym (c .before .before .before .before .before .before .before .before .before .before .before .before .before .before .counts-fit .ensures) ∙ not-false _ (c .before .before .before .before .before .before .before .before .before .before .before .before .before .if1 .left)) .offices .1
+finals-fit-requires c κs =
+    let at-if1 = c .before .before .before .before .before .before .before .before .before .before .before .before .before in
+    let at-counts-fit = at-if1 .before in
+    let entry = at-counts-fit .before .before in
+    counts-hold _ _ _ (entry .args .t1 .count) (sym (at-counts-fit .counts-fit .ensures) ∙ not-false _ (at-if1 .if1 .left)) .offices .1
 
 returns-2 : tie.Need-returns-2
 unfolding countsFit leadersFit blocksFit messagesFit finalsFit trusted sentOf finalOf
 returns-2 c =
-    fit-tables _ _ _ _ _ (sym (c .before .before .before .before .before .before .before .before .before .before .before .before .before .before .before .counts-fit .ensures) ∙ not-false _ (c .before .before .before .before .before .before .before .before .before .before .before .before .before .before .if1 .left)) (c .before .before .before .before .before .before .before .before .before .before .before .leaders-fit .ensures) (c .before .before .before .before .before .before .before .blocks-fit .ensures)
-    (c .before .before .before .messages-fit .ensures) (c .finals-fit .ensures)
+    let at-messages-fit = c .before .before .before in
+    let at-blocks-fit = at-messages-fit .before .before .before .before in
+    let at-leaders-fit = at-blocks-fit .before .before .before .before in
+    let at-if1 = at-leaders-fit .before .before .before in
+    let at-counts-fit = at-if1 .before in
+    fit-tables _ _ _ _ _ (sym (at-counts-fit .counts-fit .ensures) ∙ not-false _ (at-if1 .if1 .left)) (at-leaders-fit .leaders-fit .ensures) (at-blocks-fit .blocks-fit .ensures)
+    (at-messages-fit .messages-fit .ensures) (c .finals-fit .ensures)
 
 pub is-fit-spec : {M : Type 1} → statement M
 is-fit-spec =

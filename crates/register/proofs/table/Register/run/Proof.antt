@@ -33,7 +33,9 @@ block-number-requires : tie.Need-block-number-requires Inv-loop μ-loop
 block-number-requires c κs = search needs
 
 judge-requires : tie.Need-judge-requires Inv-loop μ-loop
-judge-requires c κs = omega (arith, c .before .before .before .before .before .before .before .before .before .before .before .block-number .ensures .0, c .before .before .before .before .before .before .before .before .before .before .before .block-number .ensures .1)
+judge-requires c κs =
+    let at-block-number = c .before .before .before .before .before .before .before .before .before .before .before in
+    omega (arith, at-block-number .block-number .ensures .0, at-block-number .block-number .ensures .1)
 
 element-write-self : tie.Need-element-write-self Inv-loop μ-loop
 element-write-self c = c .before .before .judge .ensures .within .block
@@ -75,29 +77,49 @@ element-write-self-9 : tie.Need-element-write-self-9 Inv-loop μ-loop
 element-write-self-9 c = c .before .before .judge .ensures .within .ending
 
 array-write-refusals : tie.Need-array-write-refusals Inv-loop μ-loop
-array-write-refusals c = omega (arith, c .before .before .before .before .before .before .before .before .before .before .before .before .before .before .before .before .loop-test .taken, c .before .before .before .before .before .before .before .before .before .before .before .before .before .before .before .before .before .before .in-batch .ensures)
+array-write-refusals c =
+    let at-loop-test = c .before .before .before .before .before .before .before .before .before .before .before .before .before .before .before .before in
+    let at-in-batch = at-loop-test .before .before in
+    omega (arith, at-loop-test .loop-test .taken, at-in-batch .in-batch .ensures)
 
 mul-values : tie.Need-mul-values Inv-loop μ-loop
-mul-values c = omega (arith, c .before .before .before .before .before .before .before .before .before .before .before .before .before .before .before .before .loop-test .taken, c .before .before .before .before .before .before .before .before .before .before .before .before .before .before .before .before .before .before .in-batch .ensures)
+mul-values c =
+    let at-loop-test = c .before .before .before .before .before .before .before .before .before .before .before .before .before .before .before .before in
+    let at-in-batch = at-loop-test .before .before in
+    omega (arith, at-loop-test .loop-test .taken, at-in-batch .in-batch .ensures)
 
 array-write-values : tie.Need-array-write-values Inv-loop μ-loop
-array-write-values c = omega (arith, c .before .before .before .before .before .before .before .before .before .before .before .before .before .before .before .before .loop-test .taken, c .before .before .before .before .before .before .before .before .before .before .before .before .before .before .before .before .before .before .in-batch .ensures)
+array-write-values c =
+    let at-loop-test = c .before .before .before .before .before .before .before .before .before .before .before .before .before .before .before .before in
+    let at-in-batch = at-loop-test .before .before in
+    omega (arith, at-loop-test .loop-test .taken, at-in-batch .in-batch .ensures)
 
 add-i : tie.Need-add-i Inv-loop μ-loop
-add-i c = omega (arith, c .before .before .before .before .before .before .before .before .before .before .before .before .before .before .before .before .loop-test .taken, c .before .before .before .before .before .before .before .before .before .before .before .before .before .before .before .before .before .before .in-batch .ensures)
+add-i c =
+    let at-loop-test = c .before .before .before .before .before .before .before .before .before .before .before .before .before .before .before .before in
+    let at-in-batch = at-loop-test .before .before in
+    omega (arith, at-loop-test .loop-test .taken, at-in-batch .in-batch .ensures)
 
 loop-less : tie.Need-loop-less Inv-loop μ-loop
-loop-less c = omega (arith, c .before .before .before .before .before .before .before .before .before .before .before .before .before .before .before .before .loop-test .taken)
+loop-less c =
+    let at-loop-test = c .before .before .before .before .before .before .before .before .before .before .before .before .before .before .before .before in
+    omega (arith, at-loop-test .loop-test .taken)
 
 loop-again : tie.Need-loop-again Inv-loop μ-loop
 unfolding written whole stepAt
 loop-again c =
-    let r : Register = c .before .before .before .before .before .before .before .before .before .before .before .before .before .before .before .before .before .loop .self in
-    let i : ℕ = c .before .before .before .before .before .before .before .before .before .before .before .before .before .before .before .before .before .loop .i in
-    let judged : Judged r (stepAt (c .before .before .before .before .before .before .before .before .before .before .before .before .before .before .before .before .before .before .before .args .t2) i) (c .before .before .judge .result) =
-    judged-same r (c .before .before .before .before .before .before .before .before .before .before .before .before .before .before .block-number .result) _ _ (c .before .before .before .before .before .before .before .before .before .before .before .before .before .before .block-number .ensures .0) (c .before .before .judge .ensures) in (
-      omega (arith, c .before .before .before .before .before .before .before .before .before .before .before .before .before .before .before .before .loop-test .taken),
-      ran-next (c .before .before .before .before .before .before .before .before .before .before .before .before .before .before .before .before .before .before .before .args .t1) r (c .before .before .before .before .before .before .before .before .before .before .before .before .before .before .before .before .before .before .before .args .t2) i (c .before .before .before .before .before .before .before .before .before .before .before .before .before .before .before .before .before .loop .refusals) (c .before .before .before .before .before .before .before .before .before .before .before .before .before .before .before .before .before .loop .values) (c .before .before .judge .result) (c .before .before .before .before .before .before .before .before .before .before .before .before .before .before .before .before .before .loop .inv .1) (judged .answer),
+    let at-judge = c .before .before in
+    let at-block-number = at-judge .before .before .before .before .before .before .before .before .before .before .before .before in
+    let at-loop-test = at-block-number .before .before in
+    let at-loop = at-loop-test .before in
+    let entry = at-loop .before .before in
+    let a = entry .args in
+    let r : Register = at-loop .loop .self in
+    let i : ℕ = at-loop .loop .i in
+    let judged : Judged r (stepAt (a .t2) i) (at-judge .judge .result) =
+    judged-same r (at-block-number .block-number .result) _ _ (at-block-number .block-number .ensures .0) (at-judge .judge .ensures) in (
+      omega (arith, at-loop-test .loop-test .taken),
+      ran-next (a .t1) r (a .t2) i (at-loop .loop .refusals) (at-loop .loop .values) (at-judge .judge .result) (at-loop .loop .inv .1) (judged .answer),
     )
 
 returns : tie.Need-returns Inv-loop μ-loop
