@@ -1,0 +1,88 @@
+-- Laws of steps and rows: each is got back from the other.
+use Prim.Native.Nat.{ℕ, zero, suc, _<_}
+use mathlib.Core.Path.{_≡_, refl}
+use native.Mathlib.Omega.{arith}
+use Rattle.register.specs.declared.sorts.Kind.{Kind}
+use Rattle.register.specs.declared.sorts.Kind.the-variants.{Proposal, Vote as AVote}
+use Rattle.register.specs.declared.step.Step.{Step}
+use Rattle.register.specs.declared.step.Step.the-variants.{Propose, Vote, Register, Finalise, Deliver, BadSend, Draft, Advance}
+use Rattle.words.specs.Tests.{choose}
+use Rattle.packed_log.specs.declared.row.Row.{Row}
+use Rattle.packed_log.specs.Rows.{row, kindNumber, kindOf, rowOf, stepOf, Within}
+use Rattle.packed_log.specs.Widths.{width, fields}
+
+-- a kind of message is got back from its number
+kind-number : (k : Kind) → kindOf (kindNumber k) ≡ k
+unfolding kindOf kindNumber choose
+kind-number Proposal = refl
+kind-number AVote = refl
+
+-- a number of one bit is got back from its kind of message
+number-kind : (k : ℕ) → k < 2 → kindNumber (kindOf k) ≡ k
+unfolding kindOf kindNumber choose
+number-kind zero h = refl
+number-kind (suc zero) h = refl
+number-kind (suc (suc k)) h = absurd (omega arith)
+
+-- a step is got back from its row
+pub step-row : (s : Step) → stepOf (rowOf s) ≡ s
+unfolding stepOf rowOf
+step-row (Propose o p w) = refl
+step-row (Vote o m) = refl
+step-row (Register o m) = refl
+step-row (Finalise o b) = refl
+step-row (Deliver m o) = refl
+step-row (BadSend o k s b) = rw (kind-number k)
+step-row (Draft p e w) = refl
+step-row Advance = refl
+
+-- a row of one of the eight kinds is got back from its step, where each number has room in its column
+pub row-step : (k a b c d : ℕ) → Within (row k a b c d) → 0 < k → k < 9 → rowOf (stepOf (row k a b c d)) ≡ row k a b c d
+unfolding stepOf rowOf width fields
+row-step zero a b c d h low high = absurd (omega arith)
+row-step (suc zero) a b c d h low high =
+    let fourth : d ≡ 0 = omega (arith, h .fourth) in
+    rw (fourth)
+row-step (suc (suc zero)) a b c d h low high =
+    let third : c ≡ 0 = omega (arith, h .third) in
+    let fourth : d ≡ 0 = omega (arith, h .fourth) in
+    rw (third, fourth)
+row-step (suc (suc (suc zero))) a b c d h low high =
+    let third : c ≡ 0 = omega (arith, h .third) in
+    let fourth : d ≡ 0 = omega (arith, h .fourth) in
+    rw (third, fourth)
+row-step (suc (suc (suc (suc zero)))) a b c d h low high =
+    let third : c ≡ 0 = omega (arith, h .third) in
+    let fourth : d ≡ 0 = omega (arith, h .fourth) in
+    rw (third, fourth)
+row-step (suc (suc (suc (suc (suc zero))))) a b c d h low high =
+    let third : c ≡ 0 = omega (arith, h .third) in
+    let fourth : d ≡ 0 = omega (arith, h .fourth) in
+    rw (third, fourth)
+row-step (suc (suc (suc (suc (suc (suc zero)))))) a b c d h low high = rw (number-kind b (omega (arith, h .second)))
+row-step (suc (suc (suc (suc (suc (suc (suc zero))))))) a b c d h low high =
+    let fourth : d ≡ 0 = omega (arith, h .fourth) in
+    rw (fourth)
+row-step (suc (suc (suc (suc (suc (suc (suc (suc zero)))))))) a b c d h low high =
+    let first : a ≡ 0 = omega (arith, h .first) in
+    let second : b ≡ 0 = omega (arith, h .second) in
+    let third : c ≡ 0 = omega (arith, h .third) in
+    let fourth : d ≡ 0 = omega (arith, h .fourth) in
+    rw (first, second, third, fourth)
+row-step (suc (suc (suc (suc (suc (suc (suc (suc (suc k))))))))) a b c d h low high = absurd (omega arith)
+
+-- a row of any kind but 1 to 7 is read as an advance
+pub step-rest : (r : Row) → (r .kind ≡ 1 → ⊥) → (r .kind ≡ 2 → ⊥) → (r .kind ≡ 3 → ⊥) → (r .kind ≡ 4 → ⊥) → (r .kind ≡ 5 → ⊥) → (r .kind ≡ 6 → ⊥) → (r .kind ≡ 7 → ⊥) → stepOf r ≡ Advance
+unfolding stepOf
+step-rest r h1 h2 h3 h4 h5 h6 h7 = go (r .kind) refl
+  where
+    go : (k : ℕ) → r .kind ≡ k → stepOf r ≡ Advance
+    go zero e = rw e
+    go (suc zero) e = absurd (h1 e)
+    go (suc (suc zero)) e = absurd (h2 e)
+    go (suc (suc (suc zero))) e = absurd (h3 e)
+    go (suc (suc (suc (suc zero)))) e = absurd (h4 e)
+    go (suc (suc (suc (suc (suc zero))))) e = absurd (h5 e)
+    go (suc (suc (suc (suc (suc (suc zero)))))) e = absurd (h6 e)
+    go (suc (suc (suc (suc (suc (suc (suc zero))))))) e = absurd (h7 e)
+    go (suc (suc (suc (suc (suc (suc (suc (suc k)))))))) e = rw e

@@ -1,0 +1,68 @@
+-- `packed_log::bits::read_bits`: a field is a part of the window from its first byte on.
+use borrow.Author.Needs.{needs}
+use Prim.Native.Nat.{ℕ, _*_, _%_, _^_}
+use mathlib.Core.Path.{_≡_}
+use native.Mathlib.Nat.{lt-of-lt-of-le, mod-lt}
+use native.Mathlib.Omega.{arith}
+use lib.Pow.{pow-mono, pow-pos}
+use Rattle.packed_log.proofs.BitsLaws.{Bytes}
+use Rattle.packed_log.proofs.Windows.{unit-shift, field-window}
+use Rattle.packed_log.proofs.bits.read_bits.Statement.{statement}
+use Rattle.packed_log.proofs.bits.read_bits.Tie as tie
+
+window-at-requires : tie.Need-window-at-requires
+window-at-requires c κs = search needs
+
+sub-behind : tie.Need-sub-behind
+sub-behind c = search needs
+
+sub-behind-2 : tie.Need-sub-behind-2
+sub-behind-2 c = search needs
+
+cast-result : tie.Need-cast-result
+cast-result c = search needs
+
+shr-result : tie.Need-shr-result
+shr-result c = search needs
+
+cast-result-2 : tie.Need-cast-result-2
+cast-result-2 c = search needs
+
+shl-result : tie.Need-shl-result
+shl-result c = search needs
+
+rem-result : tie.Need-rem-result
+rem-result c =
+    let width : ℕ = c .before .before .args .width in
+    omega (arith, unit-shift width (omega arith), pow-pos width)
+
+cast-result-3 : tie.Need-cast-result-3
+cast-result-3 c =
+    let width : ℕ = c .before .before .args .width in
+    record {
+      fits = rw (unit-shift width (omega arith)) (lt-of-lt-of-le (mod-lt _ (pow-pos width)) (pow-mono {j = 16} (omega arith)));
+    }
+
+returns : tie.Need-returns
+returns c =
+    let a = c .before .before .args in
+    let bytes : Bytes (a .log .now) = λ i. omega (arith, c .before .shared-slice-known .given i) in
+    let unit : 1 * 2 ^ a .width % 2 ^ 32 ≡ 2 ^ a .width = unit-shift (a .width) (omega arith) in (
+      rw (unit, c .window-at .ensures .0) (field-window (a .log .now) (a .at) (a .width) bytes (omega arith) (omega arith)),
+      rw unit (mod-lt _ (pow-pos (a .width))),
+    )
+
+pub read-bits-spec : {M : Type 1} → statement M
+read-bits-spec =
+    tie.close
+    (tie.spec
+    window-at-requires
+    sub-behind
+    sub-behind-2
+    cast-result
+    shr-result
+    cast-result-2
+    shl-result
+    rem-result
+    cast-result-3
+    returns)

@@ -1,0 +1,39 @@
+-- `packed_log::bits::write_bits`: what is laid over the part that is lent on is laid over the whole buffer.
+use borrow.Author.Needs.{needs}
+use native.Mathlib.Omega.{arith}
+use Rattle.packed_log.specs.Bits.{toBits}
+use Rattle.packed_log.proofs.BitsLaws.{Bytes, put-part}
+use Rattle.packed_log.proofs.bits.write_bits.Statement.{statement}
+use Rattle.packed_log.proofs.bits.write_bits.Tie as tie
+
+sub-write-front : tie.Need-sub-write-front
+sub-write-front c = search needs
+
+part-write-front-start : tie.Need-part-write-front-start
+part-write-front-start c = search needs
+
+part-write-front-end : tie.Need-part-write-front-end
+part-write-front-end c = search needs
+
+write-front-requires : tie.Need-write-front-requires
+write-front-requires c κs = search needs
+
+same-length : tie.Need-same-length
+same-length c = search needs
+
+returns : tie.Need-returns
+returns c =
+    let a = c .before .before .before .before .before .args in
+    let bytes : Bytes (a .buf .now) = λ i. omega (arith, c .before .before .before .before .slice-known .given i) in
+    rw (c .before .before .write-front .ensures) (put-part (a .buf .now) (a .at) (toBits (a .width) (a .value)) bytes (omega arith))
+
+pub write-bits-spec : {M : Type 1} → statement M
+write-bits-spec =
+    tie.close
+    (tie.spec
+    sub-write-front
+    part-write-front-start
+    part-write-front-end
+    write-front-requires
+    same-length
+    returns)

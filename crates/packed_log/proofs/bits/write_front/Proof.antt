@@ -1,0 +1,56 @@
+-- `packed_log::bits::write_front`: the three stores put down the window with the field laid over it.
+use borrow.Author.Needs.{needs}
+use Prim.Native.Nat.{ℕ}
+use mathlib.Core.Path.{sym, _∙_}
+use native.Mathlib.Omega.{arith}
+use Rattle.packed_log.proofs.BitsLaws.{Bytes}
+use Rattle.packed_log.proofs.Windows.{put-window}
+use Rattle.packed_log.proofs.bits.write_front.Statement.{statement}
+use Rattle.packed_log.proofs.bits.write_front.Tie as tie
+
+window-at-requires : tie.Need-window-at-requires
+window-at-requires c κs = search needs
+
+sub-laid-over : tie.Need-sub-laid-over
+sub-laid-over c = search needs
+
+sub-laid-over-2 : tie.Need-sub-laid-over-2
+sub-laid-over-2 c = search needs
+
+laid-over-requires : tie.Need-laid-over-requires
+laid-over-requires c κs = search needs
+
+store-requires : tie.Need-store-requires
+store-requires c κs = search needs
+
+store-requires-2 : tie.Need-store-requires-2
+store-requires-2 c κs = search needs
+
+store-requires-3 : tie.Need-store-requires-3
+store-requires-3 c κs = search needs
+
+same-length : tie.Need-same-length
+same-length c = search needs
+
+returns : tie.Need-returns
+returns c =
+    let a = c .before .before .before .before .before .before .before .before .before .before .before .before .before .before .before .before .args in
+    let bytes : Bytes (a .buf .now) = λ i. omega (arith, c .before .before .before .before .before .before .before .before .before .before .before .before .before .before .before .slice-known .given i) in
+    let v : ℕ = c .before .before .before .before .before .before .before .before .before .before .before .before .laid-over .result in
+    c .before .before .store3 .ensures ∙ rw (c .before .before .before .before .before .before .store2 .ensures, c .before .before .before .before .before .before .before .before .before .before .store .ensures)
+    (sym (put-window (a .buf .now) (a .at) (a .width) (a .value) bytes (omega arith) (omega arith) (omega arith) v
+    (rw (c .before .before .before .before .before .before .before .before .before .before .before .before .before .window-at .ensures .0) at (c .before .before .before .before .before .before .before .before .before .before .before .before .laid-over .ensures .0))))
+
+pub write-front-spec : {M : Type 1} → statement M
+write-front-spec =
+    tie.close
+    (tie.spec
+    window-at-requires
+    sub-laid-over
+    sub-laid-over-2
+    laid-over-requires
+    store-requires
+    store-requires-2
+    store-requires-3
+    same-length
+    returns)

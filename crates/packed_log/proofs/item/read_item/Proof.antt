@@ -1,0 +1,54 @@
+-- `packed_log::item::read_item`: gives 30, then 27, then what the kind brings.
+use borrow.Author.Needs.{needs}
+use native.Mathlib.Omega.{arith}
+use borrow.Author.Tests.{lt-ltb, le-ltb}
+use Rattle.words.specs.Tests.{choose}
+use Rattle.packed_log.specs.Items.{left, itemAt}
+use Rattle.packed_log.proofs.item.read_item.Statement.{statement}
+use Rattle.packed_log.proofs.item.read_item.Tie as tie
+
+refused-requires : tie.Need-refused-requires
+refused-requires c κs = search needs
+
+returns : tie.Need-returns
+unfolding itemAt choose
+returns c = rw (lt-ltb _ _ (c .before .if1 .taken)) (c .refused .ensures)
+
+left-of-requires : tie.Need-left-of-requires
+left-of-requires c κs = search needs
+
+refused-requires-2 : tie.Need-refused-requires-2
+refused-requires-2 c κs = search needs
+
+returns-2 : tie.Need-returns-2
+unfolding itemAt choose
+returns-2 c = rw (le-ltb _ _ (c .before .before .before .if1 .left), ← c .before .before .left-of .ensures, lt-ltb _ _ (c .before .if2 .taken)) (c .refused2 .ensures)
+
+read-bits-requires : tie.Need-read-bits-requires
+unfolding left
+read-bits-requires c κs = (omega arith, omega arith, omega arith)
+
+cast-read-kind : tie.Need-cast-read-kind
+cast-read-kind c = search needs
+
+read-kind-requires : tie.Need-read-kind-requires
+unfolding left
+read-kind-requires c κs = (omega arith, omega arith)
+
+returns-3 : tie.Need-returns-3
+unfolding itemAt choose
+returns-3 c = rw (le-ltb _ _ (c .before .before .before .before .if1 .left), ← c .before .before .before .left-of .ensures, le-ltb _ _ (c .before .before .if2 .left), ← c .before .read-bits .ensures .0) (c .read-kind .ensures)
+
+pub read-item-spec : {M : Type 1} → statement M
+read-item-spec =
+    tie.close
+    (tie.spec
+    refused-requires
+    returns
+    left-of-requires
+    refused-requires-2
+    returns-2
+    read-bits-requires
+    cast-read-kind
+    read-kind-requires
+    returns-3)

@@ -1,0 +1,7 @@
+-- The packed log. Read in this order.
+pub mod Bits
+pub mod Windows
+pub mod Widths
+pub mod Rows
+pub mod Items
+pub mod Writing

@@ -1,0 +1,10 @@
+// The packed log: its bits, its items, and the reading and writing of both.
+mod bits;
+pub mod item;
+pub mod refusal;
+mod row;
+mod widths;
+mod writing;
+
+pub use item::Item;
+pub use item::Read;
