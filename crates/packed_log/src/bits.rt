@@ -25,7 +25,7 @@ fn window_at(log: &[u8], i: usize) -> u32
 }
 
 // The number in the `width` bits from position `at` on.
-pub fn read_bits(log: &[u8], at: usize, width: usize) -> u16
+pub(crate) fn read_bits(log: &[u8], at: usize, width: usize) -> u16
     requires { ⌜ (width ≤ 16) × (at + width ≤ 8 * length (now log)) × (length (now log) ≤ 65536) ⌝ }
     ensures { λ r. ⌜ (r ≡ field (now (log .entry)) at width) × (r < 2 ^ width) ⌝ }
 {
@@ -66,7 +66,7 @@ fn write_front(buf: &mut [u8], at: usize, width: usize, value: u16)
 
 // Writes the `width` bits of `value` at position `at`; all other bits stay. What is lent on is the part of the buffer that starts at the
 // first unfinished byte.
-pub fn write_bits(buf: &mut [u8], at: usize, width: usize, value: u16)
+pub(crate) fn write_bits(buf: &mut [u8], at: usize, width: usize, value: u16)
     requires { ⌜ (width ≤ 16) × (at + width ≤ 8 * length (now buf)) × (value < 2 ^ width) ⌝ }
     ensures { λ _. ⌜ now (buf .exit) ≡ put (now (buf .entry)) at (toBits width value) ⌝ }
 {

@@ -9,7 +9,7 @@ use register::Office;
 use register::Step;
 
 // The number of a kind and the numbers of its fields, 0 in the columns that the kind has no field for.
-pub struct Row {
+pub(crate) struct Row {
     pub kind: u8,
     pub first: u16,
     pub second: u16,
@@ -51,7 +51,7 @@ fn filled(kind: u8, first: u16, second: u16, third: u16, fourth: u16) -> Row
 }
 
 // The row of a step.
-pub fn row_of(step: Step) -> Row
+pub(crate) fn row_of(step: Step) -> Row
     ensures { λ r. ⌜ r ≡ rowOf step ⌝ }
 {
     match step {
@@ -67,7 +67,7 @@ pub fn row_of(step: Step) -> Row
 }
 
 // The step of a row.
-pub fn step_of(r: Row) -> Step
+pub(crate) fn step_of(r: Row) -> Step
     requires { ⌜ Within r ⌝ }
     ensures { λ s. ⌜ s ≡ stepOf r ⌝ }
 {

@@ -4,7 +4,7 @@ ghost use Prim.Native.Nat.{_≤_, _<_};
 ghost use Rattle.packed_log.specs.Widths.{width, due};
 
 // A kind takes so many bits.
-pub const KIND_WIDTH: usize = 4;
+pub(crate) const KIND_WIDTH: usize = 4;
 
 // The widths of the six sorts of field; 0 stands where there is no field.
 const OFFICE: u8 = 5;
@@ -71,7 +71,7 @@ const WIDTHS: [u8; 36] = [
 ];
 
 // The width of a kind's field in a column; 0 where there is no field.
-pub fn width_of(kind: u8, column: usize) -> usize
+pub(crate) fn width_of(kind: u8, column: usize) -> usize
     requires { ⌜ (kind < 9) × (column < 4) ⌝ }
     ensures { λ r. ⌜ (r ≡ width kind column) × (r ≤ 16) ⌝ }
 {
@@ -79,7 +79,7 @@ pub fn width_of(kind: u8, column: usize) -> usize
 }
 
 // How many bits the fields of a kind take.
-pub fn due_of(kind: u8) -> usize
+pub(crate) fn due_of(kind: u8) -> usize
     requires { ⌜ kind < 9 ⌝ }
     ensures { λ r. ⌜ (r ≡ due kind) × (r ≤ 64) ⌝ }
 {

@@ -12,7 +12,7 @@ use crate::widths::KIND_WIDTH;
 use crate::widths::width_of;
 
 // Lays the kind and the fields of a row over the buffer from position `at` on.
-pub fn write_row(buf: &mut [u8], at: usize, r: Row)
+pub(crate) fn write_row(buf: &mut [u8], at: usize, r: Row)
     requires { ⌜ (r .kind < 9) × (at + 4 + due (r .kind) ≤ 8 * length (now buf)) × (at ≤ 524288) × Within r ⌝ }
     ensures { λ _. ⌜ now (buf .exit) ≡ put (now (buf .entry)) at (rowBits r) ⌝ }
 {

@@ -23,9 +23,12 @@ same-length c = search needs
 
 returns : tie.Need-returns
 returns c =
-    let a = c .before .before .before .before .before .args in
-    let bytes : Bytes (a .buf .now) = λ i. omega (arith, c .before .before .before .before .slice-known .given i) in
-    rw (c .before .before .write-front .ensures) (put-part (a .buf .now) (a .at) (toBits (a .width) (a .value)) bytes (omega arith))
+    let at-write-front = c .before .before in
+    let at-slice-known = at-write-front .before .before in
+    let entry = at-slice-known .before in
+    let a = entry .args in
+    let bytes : Bytes (a .buf .now) = λ i. omega (arith, at-slice-known .slice-known .given i) in
+    rw (at-write-front .write-front .ensures) (put-part (a .buf .now) (a .at) (toBits (a .width) (a .value)) bytes (omega arith))
 
 pub write-bits-spec : {M : Type 1} → statement M
 write-bits-spec =

@@ -34,12 +34,19 @@ same-length c = search needs
 
 returns : tie.Need-returns
 returns c =
-    let a = c .before .before .before .before .before .before .before .before .before .before .before .before .before .before .before .before .args in
-    let bytes : Bytes (a .buf .now) = λ i. omega (arith, c .before .before .before .before .before .before .before .before .before .before .before .before .before .before .before .slice-known .given i) in
-    let v : ℕ = c .before .before .before .before .before .before .before .before .before .before .before .before .laid-over .result in
-    c .before .before .store3 .ensures ∙ rw (c .before .before .before .before .before .before .store2 .ensures, c .before .before .before .before .before .before .before .before .before .before .store .ensures)
+    let at-store3 = c .before .before in
+    let at-store2 = at-store3 .before .before .before .before in
+    let at-store = at-store2 .before .before .before .before in
+    let at-laid-over = at-store .before .before in
+    let at-window-at = at-laid-over .before in
+    let at-slice-known = at-window-at .before .before in
+    let entry = at-slice-known .before in
+    let a = entry .args in
+    let bytes : Bytes (a .buf .now) = λ i. omega (arith, at-slice-known .slice-known .given i) in
+    let v : ℕ = at-laid-over .laid-over .result in
+    at-store3 .store3 .ensures ∙ rw (at-store2 .store2 .ensures, at-store .store .ensures)
     (sym (put-window (a .buf .now) (a .at) (a .width) (a .value) bytes (omega arith) (omega arith) (omega arith) v
-    (rw (c .before .before .before .before .before .before .before .before .before .before .before .before .before .window-at .ensures .0) at (c .before .before .before .before .before .before .before .before .before .before .before .before .laid-over .ensures .0))))
+    (rw (at-window-at .window-at .ensures .0) at (at-laid-over .laid-over .ensures .0))))
 
 pub write-front-spec : {M : Type 1} → statement M
 write-front-spec =

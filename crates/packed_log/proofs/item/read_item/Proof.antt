@@ -37,7 +37,11 @@ read-kind-requires c κs = (omega arith, omega arith)
 
 returns-3 : tie.Need-returns-3
 unfolding itemAt choose
-returns-3 c = rw (le-ltb _ _ (c .before .before .before .before .if1 .left), ← c .before .before .before .left-of .ensures, le-ltb _ _ (c .before .before .if2 .left), ← c .before .read-bits .ensures .0) (c .read-kind .ensures)
+returns-3 c =
+    let at-if2 = c .before .before in
+    let at-left-of = at-if2 .before in
+    let at-if1 = at-left-of .before in
+    rw (le-ltb _ _ (at-if1 .if1 .left), ← at-left-of .left-of .ensures, le-ltb _ _ (at-if2 .if2 .left), ← c .before .read-bits .ensures .0) (c .read-kind .ensures)
 
 pub read-item-spec : {M : Type 1} → statement M
 read-item-spec =

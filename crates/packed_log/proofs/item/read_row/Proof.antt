@@ -45,15 +45,21 @@ read-bits-requires-4 c κs = (omega arith, omega arith, omega arith)
 
 returns : tie.Need-returns
 unfolding rowAt
-returns c = (
-  cc,
-  record {
-    first = rw (c .before .before .before .before .before .before .before .width-of .ensures .0) at (c .before .before .before .read-bits .ensures .1);
-    second = rw (c .before .before .before .before .before .before .width-of2 .ensures .0) at (c .before .before .read-bits2 .ensures .1);
-    third = rw (c .before .before .before .before .before .width-of3 .ensures .0) at (c .before .read-bits3 .ensures .1);
-    fourth = rw (c .before .before .before .before .width-of4 .ensures .0) at (c .read-bits4 .ensures .1);
-  },
-)
+returns c =
+    let at-read-bits2 = c .before .before in
+    let at-read-bits = at-read-bits2 .before in
+    let at-width-of4 = at-read-bits .before in
+    let at-width-of3 = at-width-of4 .before in
+    let at-width-of2 = at-width-of3 .before in
+    let at-width-of = at-width-of2 .before in (
+      cc,
+      record {
+        first = rw (at-width-of .width-of .ensures .0) at (at-read-bits .read-bits .ensures .1);
+        second = rw (at-width-of2 .width-of2 .ensures .0) at (at-read-bits2 .read-bits2 .ensures .1);
+        third = rw (at-width-of3 .width-of3 .ensures .0) at (c .before .read-bits3 .ensures .1);
+        fourth = rw (at-width-of4 .width-of4 .ensures .0) at (c .read-bits4 .ensures .1);
+      },
+    )
 
 pub read-row-spec : {M : Type 1} → statement M
 read-row-spec =

@@ -35,7 +35,11 @@ add-t8 c = search needs
 
 returns-2 : tie.Need-returns-2
 unfolding stepAt choose
-returns-2 c = rw (← c .before .before .before .left-of .ensures, ← c .before .before .before .before .due-of .ensures .0, le-ltb _ _ (c .before .before .if1 .left), c .step-of .ensures, c .before .read-row .ensures .0)
+returns-2 c =
+    let at-if1 = c .before .before in
+    let at-left-of = at-if1 .before in
+    let at-due-of = at-left-of .before in
+    rw (← at-left-of .left-of .ensures, ← at-due-of .due-of .ensures .0, le-ltb _ _ (at-if1 .if1 .left), c .step-of .ensures, c .before .read-row .ensures .0)
 
 pub read-step-spec : {M : Type 1} → statement M
 read-step-spec =

@@ -111,7 +111,10 @@ returns-5 c = c .filled5 .ensures ∙ sym (ap rowOf (c .before .before .before .
 
 returns-6 : tie.Need-returns-6
 unfolding rowOf
-returns-6 c = (rw (c .before .before .before .kind-number .ensures) at (c .filled6 .ensures)) ∙ sym (ap rowOf (c .before .before .before .before .before .before .step6 .given .1))
+returns-6 c =
+    let at-kind-number = c .before .before .before in
+    let at-step6 = at-kind-number .before .before .before in
+    (rw (at-kind-number .kind-number .ensures) at (c .filled6 .ensures)) ∙ sym (ap rowOf (at-step6 .step6 .given .1))
 
 returns-7 : tie.Need-returns-7
 unfolding rowOf

@@ -49,7 +49,10 @@ cast-t24 c = omega (arith, rw (c .before .before .before .match .keys6) at (c .b
 
 cast-t26 : tie.Need-cast-t26
 unfolding width fields
-cast-t26 c = omega (arith, rw (c .before .before .before .before .match .keys6) at (c .before .before .before .before .before .pre .fourth))
+cast-t26 c =
+    let at-match = c .before .before .before .before in
+    let entry = at-match .before in
+    omega (arith, rw (at-match .match .keys6) at (entry .pre .fourth))
 
 cast-t28 : tie.Need-cast-t28
 unfolding width fields
