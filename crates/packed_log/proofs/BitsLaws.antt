@@ -8,12 +8,8 @@ use native.Mathlib.Omega.{arith}
 use lib.ListN.{length, getD, take, drop, length-append, length-take, length-drop, take-append-drop, drop-of-length-le}
 use lib.Pow.{pow-mono}
 use lib.Seq.{sets, length-sets, sets-eq, take-all, take-at, drop-at, drop-append-add, drop-drop, drop-nil}
-use Rattle.packed_log.specs.Bits.{toBits, num, bits, pack, bytes, field, put}
+use Rattle.packed_log.specs.Bits.{Bytes, toBits, num, bits, pack, bytes, field, put}
 use Rattle.packed_log.proofs.BitRows.{length-toBits, num-lt, num-toBits, toBits-num, part-append, sets-sets, sets-left, sets-right}
-
--- each entry is a byte
-abbrev pub Bytes : List ℕ → Type 0
-Bytes l = (i : ℕ) → getD l i 0 < 256
 
 -- eight bits to a byte
 pub length-bits : (l : List ℕ) → length (bits l) ≡ 8 * length l

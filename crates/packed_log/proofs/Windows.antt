@@ -8,10 +8,10 @@ use native.Mathlib.Omega.{arith}
 use lib.ListN.{length, getD, set, take, drop, replicate, length-append, length-drop}
 use lib.Pow.{shl-exact}
 use lib.Seq.{sets, length-sets, take-at, drop-drop, getD-drop}
-use Rattle.packed_log.specs.Bits.{toBits, num, bits, pack, field, put}
+use Rattle.packed_log.specs.Bits.{Bytes, toBits, num, bits, pack, field, put}
 use Rattle.packed_log.specs.Windows.{window, over}
 use Rattle.packed_log.proofs.BitRows.{length-toBits, num-lt, num-append, num-toBits, num-part, num-sets}
-use Rattle.packed_log.proofs.BitsLaws.{Bytes, length-bits, field-left, field-drop, put-pack, length-put, put-left}
+use Rattle.packed_log.proofs.BitsLaws.{length-bits, field-left, field-drop, put-pack, length-put, put-left}
 
 -- 1 shifted within 24 bits is the power of 2, which fits
 pub unit-shift : (w : ℕ) → w ≤ 24 → 1 * 2 ^ w % 2 ^ 32 ≡ 2 ^ w

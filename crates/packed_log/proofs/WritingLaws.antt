@@ -1,19 +1,29 @@
 -- Laws of what the writer lays over a buffer.
-use Prim.Native.Nat.{ℕ, _+_}
-use mathlib.Core.Path.{_≡_}
-use mathlib.Core.Bool.{Bool}
-use mathlib.Core.List.{List, _++_}
+use Prim.Native.Nat.{ℕ, zero, suc, _+_, _*_, _-_, _%_, _^_, _≤_, _<_, min}
+use mathlib.Core.Path.{_≡_, refl, sym}
+use mathlib.Core.Bool.{Bool, true, false, _||_}
+use mathlib.Core.List.{List, [], _∷_, _++_}
+use native.Mathlib.Nat.{zero-add, suc-add, zero-div, min-le-left, min-le-right}
 use native.Mathlib.Omega.{arith}
-use lib.ListN.{length, length-append}
+use borrow.Author.Tests.{leb-false, lt-ltb, le-ltb, ne-eqb}
+use lib.Dec.{leb}
+use lib.ListN.{length, replicate, length-append, length-replicate}
+use Rattle.register.specs.declared.step.Step.{Step}
+use Rattle.register.specs.declared.step.Step.the-variants.{Propose, Vote, Register, Finalise, Deliver, BadSend, Draft, Advance}
+use Rattle.words.specs.Tests.{choose, either}
+use Rattle.words.specs.Refusals.{first}
+use Rattle.words.proofs.Tests.{either-false-left, either-false-right}
 use Rattle.packed_log.specs.declared.row.Row.{Row}
+use Rattle.packed_log.specs.declared.writing.Wrote.{Wrote}
 use Rattle.packed_log.specs.Bits.{toBits, put}
-use Rattle.packed_log.specs.Widths.{width}
-use Rattle.packed_log.specs.Writing.{rowBits}
+use Rattle.packed_log.specs.Rows.{rowOf, Within}
+use Rattle.packed_log.specs.Widths.{width, due}
+use Rattle.packed_log.specs.Writing.{rowBits, stepBits, endBits, wide, short, stepRefused, endRefused, wrote, laid}
 use Rattle.packed_log.proofs.BitRows.{length-toBits}
 use Rattle.packed_log.proofs.BitsLaws.{put-put}
 
 -- what is laid where the row before it ends
-put-next : (l : List ℕ) (p : ℕ) (t u : List Bool) (q : ℕ) → q ≡ p + length t → put (put l p t) q u ≡ put l p (t ++ u)
+pub put-next : (l : List ℕ) (p : ℕ) (t u : List Bool) (q : ℕ) → q ≡ p + length t → put (put l p t) q u ≡ put l p (t ++ u)
 put-next l p t u q e = rw e (put-put l p t u)
 
 -- a kind and its fields, laid one behind the other, are the row
@@ -34,3 +44,129 @@ put-row l p r w0 w1 w2 w3 e0 e1 e2 e3 =
       ← e2,
       ← e3,
     )
+
+-- a row takes four bits for its kind, and those that the kind's fields take
+pub length-rowBits : (r : Row) → length (rowBits r) ≡ 4 + due (r .kind)
+unfolding rowBits due
+length-rowBits r = simp (length-append, length-toBits) (omega arith)
+
+-- the end takes four bits for its kind, and those to the byte's end
+pub length-endBits : (p : ℕ) → length (endBits p) ≡ 4 + (8 - (p + 4) % 8) % 8
+unfolding endBits
+length-endBits p = simp (length-append, length-toBits, length-replicate)
+
+-- the w bits of 0 are zero bits
+zero-bits : (w : ℕ) → toBits w 0 ≡ replicate w false
+unfolding toBits
+zero-bits zero = refl
+zero-bits (suc w) = rw (zero-div, zero-bits w)
+
+-- zero bits joined to zero bits are zero bits
+replicate-append : {A : Type 0} (k m : ℕ) (a : A) → replicate k a ++ replicate m a ≡ replicate (k + m) a
+replicate-append zero m a = rw zero-add
+replicate-append (suc k) m a = rw (suc-add, replicate-append k m a)
+
+-- the end is a row of zero bits
+pub end-zero : (p w : ℕ) → w ≡ length (endBits p) → toBits w 0 ≡ endBits p
+unfolding endBits
+end-zero p w e =
+    let k : ℕ = (8 - (p + 4) % 8) % 8 in
+    rw (e, length-endBits p, zero-bits (4 + k), zero-bits 4) (sym (replicate-append 4 k false))
+
+-- the tests of four columns, joined
+pub or-four : (a b c d : Bool) → a || b || c || d ≡ either a (either b (either c d))
+unfolding either
+or-four true b c d = refl
+or-four false true c d = refl
+or-four false false true d = refl
+or-four false false false d = refl
+
+-- where no number of a row is too wide, each has room in its column
+pub within : (r : Row) → wide r ≡ false → Within r
+unfolding wide
+within r h =
+    let over0 : Bool = leb (2 ^ width (r .kind) 0) (r .first) in
+    let over1 : Bool = leb (2 ^ width (r .kind) 1) (r .second) in
+    let over2 : Bool = leb (2 ^ width (r .kind) 2) (r .third) in
+    let over3 : Bool = leb (2 ^ width (r .kind) 3) (r .fourth) in
+    let from1 : either over1 (either over2 over3) ≡ false = either-false-right over0 (either over1 (either over2 over3)) h in
+    let from2 : either over2 over3 ≡ false = either-false-right over1 (either over2 over3) from1 in
+    record {
+      first = leb-false _ _ (either-false-left over0 (either over1 (either over2 over3)) h);
+      second = leb-false _ _ (either-false-left over1 (either over2 over3) from1);
+      third = leb-false _ _ (either-false-left over2 over3 from2);
+      fourth = leb-false _ _ (either-false-right over2 over3 from2);
+    }
+
+-- the kind of a step is 1 to 8
+pub step-kind : (s : Step) → (0 < rowOf s .kind) × (rowOf s .kind < 9)
+unfolding rowOf
+step-kind (Propose o p w) = (omega arith, omega arith)
+step-kind (Vote o m) = (omega arith, omega arith)
+step-kind (Register o m) = (omega arith, omega arith)
+step-kind (Finalise o b) = (omega arith, omega arith)
+step-kind (Deliver m o) = (omega arith, omega arith)
+step-kind (BadSend o k s b) = (omega arith, omega arith)
+step-kind (Draft p e w) = (omega arith, omega arith)
+step-kind Advance = (omega arith, omega arith)
+
+-- the row of a step has one of the nine kinds
+pub row-kind : (s : Step) (r : Row) → r ≡ rowOf s → r .kind < 9
+row-kind s r e = rw e (step-kind s .1)
+
+-- a step takes four bits for its kind, and those that the fields of its row take
+pub step-size : (s : Step) (r : Row) (d : ℕ) → r ≡ rowOf s → d ≡ due (r .kind) → 4 + d ≡ length (stepBits s)
+unfolding stepBits
+step-size s r d e size = rw (size, e) (sym (length-rowBits (rowOf s)))
+
+-- what has room ends within the buffer, and starts within the longest log
+pub room-within : (n p room w : ℕ) → room ≡ 8 * min n 65536 - p → w ≤ room → 0 < w → (p + w ≤ 8 * n) × (p ≤ 524288)
+room-within n p room w e h some =
+    let least : min n 65536 ≤ n = min-le-left n 65536 in
+    let small : min n 65536 ≤ 65536 = min-le-right n 65536 in
+    (omega arith, omega arith)
+
+-- a row is short of room exactly where fewer bits are left than it has
+pub short-room : (l : List ℕ) (p room w : ℕ) (t : List Bool) → room ≡ 8 * min (length l) 65536 - p → w ≡ length t → room < w → short l p t ≡ true
+unfolding short
+short-room l p room w t e long h = rw (← e, ← long) (lt-ltb room w h)
+
+pub long-room : (l : List ℕ) (p room w : ℕ) (t : List Bool) → room ≡ 8 * min (length l) 65536 - p → w ≡ length t → w ≤ room → short l p t ≡ false
+unfolding short
+long-room l p room w t e long h = rw (← e, ← long) (le-ltb room w h)
+
+-- a step that is too wide is refused with 9; one for which the buffer is too short with 31; and no other
+pub step-wide : (l : List ℕ) (p : ℕ) (s : Step) → wide (rowOf s) ≡ true → stepRefused l p s ≡ 9
+unfolding stepRefused first choose
+step-wide l p s w = rw w
+
+pub step-short : (l : List ℕ) (p : ℕ) (s : Step) → wide (rowOf s) ≡ false → short l p (stepBits s) ≡ true → stepRefused l p s ≡ 31
+unfolding stepRefused first choose
+step-short l p s w t = rw (w, t)
+
+pub step-fits : (l : List ℕ) (p : ℕ) (s : Step) → wide (rowOf s) ≡ false → short l p (stepBits s) ≡ false → stepRefused l p s ≡ 0
+unfolding stepRefused first choose
+step-fits l p s w t = rw (w, t)
+
+-- an end for which the buffer is too short is refused with 31, and no other
+pub end-short : (l : List ℕ) (p : ℕ) → short l p (endBits p) ≡ true → endRefused l p ≡ 31
+unfolding endRefused first choose
+end-short l p t = rw t
+
+pub end-fits : (l : List ℕ) (p : ℕ) → short l p (endBits p) ≡ false → endRefused l p ≡ 0
+unfolding endRefused first choose
+end-fits l p t = rw t
+
+-- what a call of the writer promises: its answer, and the buffer after it
+abbrev Promised : (l m : List ℕ) → (answer : Wrote) → (refusal p : ℕ) → List Bool → Type 0
+Promised l m answer refusal p t = (answer ≡ wrote refusal p t) × (m ≡ laid l refusal p t)
+
+-- a refusal gives the position that the call was given and changes no bit
+pub call-refused : (l : List ℕ) (p k refusal : ℕ) (t : List Bool) → refusal ≡ k → 0 < k → Promised l l (record { refusal = k; next = p }) refusal p t
+unfolding wrote laid choose
+call-refused l p k refusal t e some = rw (e, ne-eqb k 0 (λ none. absurd (omega arith))) (refl, refl)
+
+-- else the bits are laid, and the next position stands behind them
+pub call-laid : (l m : List ℕ) (p w refusal : ℕ) (t : List Bool) → refusal ≡ 0 → w ≡ length t → m ≡ put l p t → Promised l m (record { refusal = 0; next = p + w }) refusal p t
+unfolding wrote laid choose
+call-laid l m p w refusal t e long h = rw (e, long) (refl, h)

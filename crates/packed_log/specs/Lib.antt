@@ -4,4 +4,7 @@ pub mod Windows
 pub mod Widths
 pub mod Rows
 pub mod Items
+pub mod Openings
 pub mod Writing
+pub mod Logs
+pub mod Claims

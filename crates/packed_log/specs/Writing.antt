@@ -1,9 +1,33 @@
--- What the writer lays over a buffer.
-use mathlib.Core.Bool.{Bool}
-use mathlib.Core.List.{List, _++_}
+-- What the writer lays over a buffer, and what a call of it gives.
+use Prim.Native.Nat.{ℕ, zero, suc, _+_, _*_, _-_, _%_, _^_, min}
+use mathlib.Core.Bool.{Bool, false}
+use mathlib.Core.List.{List, [], _∷_, _++_}
+use lib.Dec.{eqb, ltb, leb}
+use lib.ListN.{length, replicate}
+use Rattle.words.specs.Tests.{choose, either}
+use Rattle.words.specs.Digits.{digit}
+use Rattle.words.specs.Refusals.{Refusal, _⇒_, first}
+use Rattle.register.specs.declared.step.Step.{Step}
+use Rattle.register.specs.Opening.{openingTests}
 use Rattle.packed_log.specs.declared.row.Row.{Row}
-use Rattle.packed_log.specs.Bits.{toBits}
+use Rattle.packed_log.specs.declared.writing.Wrote.{Wrote}
+use Rattle.packed_log.specs.Bits.{toBits, put}
+use Rattle.packed_log.specs.Rows.{rowOf}
 use Rattle.packed_log.specs.Widths.{width}
+
+-- the trust bits of n offices, office 0 first
+unfoldable pub trustBits : (n trust : ℕ) → List Bool
+trustBits zero trust = []
+trustBits (suc n) trust = trustBits n trust ++ (eqb (digit 2 trust n) 1 ∷ [])
+
+-- the leaders of a schedule
+unfoldable pub leaderBits : (schedule : List ℕ) → List Bool
+leaderBits [] = []
+leaderBits (q ∷ schedule) = toBits 5 q ++ leaderBits schedule
+
+-- the bits of an opening: n, the trust bits, the schedule's length, the leaders
+unfoldable pub openingBits : (n trust : ℕ) → (schedule : List ℕ) → List Bool
+openingBits n trust schedule = toBits 6 n ++ trustBits n trust ++ toBits 9 (length schedule) ++ leaderBits schedule
 
 -- the bits of a row: its kind, and then its fields without gaps
 unfoldable pub rowBits : Row → List Bool
@@ -13,3 +37,42 @@ rowBits r =
     ++ toBits (width (r .kind) 1) (r .second)
     ++ toBits (width (r .kind) 2) (r .third)
     ++ toBits (width (r .kind) 3) (r .fourth)
+
+-- the bits of a step
+unfoldable pub stepBits : Step → List Bool
+stepBits s = rowBits (rowOf s)
+
+-- the bits of the end at position p: kind 0, and zero bits to the byte's end
+unfoldable pub endBits : (p : ℕ) → List Bool
+endBits p = toBits 4 0 ++ replicate ((8 - (p + 4) % 8) % 8) false
+
+-- some number of the row has no room in its column
+unfoldable pub wide : Row → Bool
+wide r =
+    either (leb (2 ^ width (r .kind) 0) (r .first))
+    (either (leb (2 ^ width (r .kind) 1) (r .second))
+    (either (leb (2 ^ width (r .kind) 2) (r .third))
+    (leb (2 ^ width (r .kind) 3) (r .fourth))))
+
+-- the buffer, which counts as at most 65,536 bytes long, ends before these bits would from position p on
+unfoldable pub short : (buffer : List ℕ) → (p : ℕ) → List Bool → Bool
+short buffer p t = ltb (8 * min (length buffer) 65536 - p) (length t)
+
+-- the refusals of the writer, in their order
+unfoldable pub openingRefused : (buffer : List ℕ) → (p n trust : ℕ) → (schedule : List ℕ) → ℕ
+openingRefused buffer p n trust schedule =
+    first (openingTests n trust schedule ++ (short buffer p (openingBits n trust schedule) ⇒ 31) ∷ [])
+
+unfoldable pub stepRefused : (buffer : List ℕ) → (p : ℕ) → Step → ℕ
+stepRefused buffer p s = first ((wide (rowOf s) ⇒ 9) ∷ (short buffer p (stepBits s) ⇒ 31) ∷ [])
+
+unfoldable pub endRefused : (buffer : List ℕ) → (p : ℕ) → ℕ
+endRefused buffer p = first ((short buffer p (endBits p) ⇒ 31) ∷ [])
+
+-- what a call that was to lay these bits at position p gives: 0 or the refusal, and the next position, which is the given one if refused
+unfoldable pub wrote : (refusal p : ℕ) → List Bool → Wrote
+wrote refusal p t = record { refusal = refusal; next = choose (eqb refusal 0) (p + length t) p }
+
+-- the buffer after that call: a refusal changes no bit
+unfoldable pub laid : (buffer : List ℕ) → (refusal p : ℕ) → List Bool → List ℕ
+laid buffer refusal p t = choose (eqb refusal 0) (put buffer p t) buffer

@@ -15,7 +15,7 @@ use crate::widths::width_of;
 use register::Step;
 
 // The most bytes that a log may have.
-const LONGEST: usize = 65536;
+pub(crate) const LONGEST: usize = 65536;
 // The last of the kinds.
 const LAST_KIND: u8 = 8;
 
@@ -43,7 +43,7 @@ fn refused(number: u8, at: usize) -> Read
 }
 
 // How many bits are left from position `at` on; 0 at the log's end and past it.
-fn left_of(log: &[u8], at: usize) -> usize
+pub(crate) fn left_of(log: &[u8], at: usize) -> usize
     requires { ⌜ length (now log) ≤ 65536 ⌝ }
     ensures { λ r. ⌜ r ≡ left (now (log .entry)) at ⌝ }
 {

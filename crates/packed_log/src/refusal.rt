@@ -7,3 +7,5 @@ pub const NO_SUCH_STEP: u8 = 28;
 pub const ENDING: u8 = 29;
 
 pub const LONG_LOG: u8 = 30;
+
+pub const SHORT_BUFFER: u8 = 31;

@@ -1,18 +1,69 @@
-// Writing a log into a buffer.
+// Writing a log into a buffer: an opening, one step or the end, each at a given position.
 ghost use mathlib.Core.Path.{_≡_};
-ghost use Prim.Native.Nat.{_+_, _*_, _≤_, _<_};
+ghost use Prim.Native.Nat.{_+_, _*_, _-_, _^_, _≤_, _<_, min};
+ghost use lib.Dec.{leb};
 ghost use lib.ListN.{length};
 ghost use Rattle.packed_log.specs.Bits.{put};
 ghost use Rattle.packed_log.specs.Rows.{Within};
 ghost use Rattle.packed_log.specs.Widths.{due};
-ghost use Rattle.packed_log.specs.Writing.{rowBits};
+ghost use Rattle.packed_log.specs.Writing.{rowBits, stepBits, endBits, wide, stepRefused, endRefused, wrote, laid};
 use crate::bits::write_bits;
+use crate::item::LONGEST;
+use crate::refusal;
 use crate::row::Row;
+use crate::row::row_of;
 use crate::widths::KIND_WIDTH;
+use crate::widths::due_of;
 use crate::widths::width_of;
+use register::Step;
+
+// What a call of the writer gives: 0 and the position behind what it wrote, or the refusal and the position that it was given.
+pub struct Wrote {
+    pub refusal: u8,
+    pub next: usize,
+}
+
+// How many bits the buffer has left from position `at` on, where it counts as at most 65,536 bytes long.
+fn room_of(buf: &[u8], at: usize) -> usize
+    ensures { λ r. ⌜ (r ≡ 8 * min (length (now (buf .entry))) 65536 - at) × (r ≤ 524288) ⌝ }
+{
+    let total = 8 * shorter(buf.len(), LONGEST);
+    if total < at {
+        return 0;
+    }
+    total - at
+}
+
+// The lesser of two lengths.
+fn shorter(a: usize, b: usize) -> usize
+    ensures { λ r. ⌜ r ≡ min a b ⌝ }
+{
+    if a < b { a } else { b }
+}
+
+// The number has no room in so many bits.
+fn is_over(number: u16, width: usize) -> bool
+    requires { ⌜ width ≤ 16 ⌝ }
+    ensures { λ r. ⌜ r ≡ leb (2 ^ width) number ⌝ }
+{
+    number as u32 >= 1 << width
+}
+
+// Some number of the row has no room in its column.
+fn is_wide(r: Row) -> bool
+    requires { ⌜ r .kind < 9 ⌝ }
+    ensures { λ t. ⌜ t ≡ wide r ⌝ }
+{
+    let kind = r.kind;
+    let first = is_over(r.first, width_of(kind, 0));
+    let second = is_over(r.second, width_of(kind, 1));
+    let third = is_over(r.third, width_of(kind, 2));
+    let fourth = is_over(r.fourth, width_of(kind, 3));
+    first | second | third | fourth
+}
 
 // Lays the kind and the fields of a row over the buffer from position `at` on.
-pub(crate) fn write_row(buf: &mut [u8], at: usize, r: Row)
+fn write_row(buf: &mut [u8], at: usize, r: Row)
     requires { ⌜ (r .kind < 9) × (at + 4 + due (r .kind) ≤ 8 * length (now buf)) × (at ≤ 524288) × Within r ⌝ }
     ensures { λ _. ⌜ now (buf .exit) ≡ put (now (buf .entry)) at (rowBits r) ⌝ }
 {
@@ -30,4 +81,54 @@ pub(crate) fn write_row(buf: &mut [u8], at: usize, r: Row)
     write_bits(buf, second, w1, r.second);
     write_bits(buf, third, w2, r.third);
     write_bits(buf, fourth, w3, r.fourth);
+}
+
+// Writes a step at position `at`.
+pub fn write_step(buf: &mut [u8], at: usize, step: Step) -> Wrote
+    ensures { λ r. ⌜ (r ≡ wrote (stepRefused (now (buf .entry)) at step) at (stepBits step)) × (now (buf .exit) ≡ laid (now (buf .entry)) (stepRefused (now (buf .entry)) at step) at (stepBits step)) ⌝ }
+{
+    let row = row_of(step);
+    let size = KIND_WIDTH + due_of(row.kind);
+    if is_wide(row) {
+        return Wrote {
+            refusal: register::refusal::WIDE,
+            next: at,
+        };
+    }
+    if room_of(buf, at) < size {
+        return Wrote {
+            refusal: refusal::SHORT_BUFFER,
+            next: at,
+        };
+    }
+    write_row(buf, at, row);
+    Wrote {
+        refusal: 0,
+        next: at + size,
+    }
+}
+
+// How many bits the end takes at position `at`: its kind, and zero bits to the byte's end.
+fn end_width(at: usize) -> usize
+    ensures { λ r. ⌜ (r ≡ length (endBits at)) × (r ≤ 11) ⌝ }
+{
+    KIND_WIDTH + (12 - at % 8) % 8
+}
+
+// Writes the end at position `at`, with its zero pad.
+pub fn write_end(buf: &mut [u8], at: usize) -> Wrote
+    ensures { λ r. ⌜ (r ≡ wrote (endRefused (now (buf .entry)) at) at (endBits at)) × (now (buf .exit) ≡ laid (now (buf .entry)) (endRefused (now (buf .entry)) at) at (endBits at)) ⌝ }
+{
+    let size = end_width(at);
+    if room_of(buf, at) < size {
+        return Wrote {
+            refusal: refusal::SHORT_BUFFER,
+            next: at,
+        };
+    }
+    write_bits(buf, at, size, 0);
+    Wrote {
+        refusal: 0,
+        next: at + size,
+    }
 }

@@ -5,7 +5,7 @@ use mathlib.Core.Path.{_≡_}
 use native.Mathlib.Nat.{lt-of-lt-of-le, mod-lt}
 use native.Mathlib.Omega.{arith}
 use lib.Pow.{pow-mono, pow-pos}
-use Rattle.packed_log.proofs.BitsLaws.{Bytes}
+use Rattle.packed_log.specs.Bits.{Bytes}
 use Rattle.packed_log.proofs.Windows.{unit-shift, field-window}
 use Rattle.packed_log.proofs.bits.read_bits.Statement.{statement}
 use Rattle.packed_log.proofs.bits.read_bits.Tie as tie

@@ -1,8 +1,8 @@
 -- `packed_log::bits::write_bits`: what is laid over the part that is lent on is laid over the whole buffer.
 use borrow.Author.Needs.{needs}
 use native.Mathlib.Omega.{arith}
-use Rattle.packed_log.specs.Bits.{toBits}
-use Rattle.packed_log.proofs.BitsLaws.{Bytes, put-part}
+use Rattle.packed_log.specs.Bits.{Bytes, toBits}
+use Rattle.packed_log.proofs.BitsLaws.{put-part}
 use Rattle.packed_log.proofs.bits.write_bits.Statement.{statement}
 use Rattle.packed_log.proofs.bits.write_bits.Tie as tie
 

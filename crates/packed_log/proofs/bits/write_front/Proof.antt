@@ -3,7 +3,7 @@ use borrow.Author.Needs.{needs}
 use Prim.Native.Nat.{ℕ}
 use mathlib.Core.Path.{sym, _∙_}
 use native.Mathlib.Omega.{arith}
-use Rattle.packed_log.proofs.BitsLaws.{Bytes}
+use Rattle.packed_log.specs.Bits.{Bytes}
 use Rattle.packed_log.proofs.Windows.{put-window}
 use Rattle.packed_log.proofs.bits.write_front.Statement.{statement}
 use Rattle.packed_log.proofs.bits.write_front.Tie as tie
