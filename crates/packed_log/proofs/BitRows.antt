@@ -3,10 +3,10 @@ use Prim.Native.Nat.{ℕ, zero, suc, _+_, _*_, _-_, _/_, _%_, _^_, _≤_, _<_}
 use mathlib.Core.Path.{_≡_, refl, sym, ap, _∙_}
 use mathlib.Core.Bool.{Bool, true, false}
 use mathlib.Core.List.{List, [], _∷_, _++_, append-assoc}
-use native.Mathlib.Nat.{add-assoc, add-comm, add-mul, add-suc, add-zero, mod-eq-of-lt, mod-one, mul-assoc, one-mul, pow-succ', suc-add, two-pow-succ, zero-add, zero-mul}
+use native.Mathlib.Nat.{add-assoc, add-comm, add-mul, add-suc, add-zero, mod-eq-of-lt, mod-one, mul-assoc, one-mul, pow-succ', suc-add, two-pow-succ, zero-add, zero-div, zero-mul}
 use native.Mathlib.Omega.{arith}
 use lib.Dec.{eqb}
-use lib.ListN.{length, take, drop, set, length-append, length-take, length-drop, length-set, take-append-drop}
+use lib.ListN.{length, take, drop, set, replicate, length-append, length-take, length-drop, length-set, take-append-drop}
 use lib.Pow.{pow-add, mod-pow-add, high, low}
 use lib.Seq.{sets, sets-eq, set-append-left, drop-append-le, take-append-le}
 use Rattle.words.specs.Tests.{choose}
@@ -18,6 +18,12 @@ pub length-toBits : (w v : ℕ) → length (toBits w v) ≡ w
 unfolding toBits
 length-toBits zero v = refl
 length-toBits (suc w) v = ap suc (length-toBits w v)
+
+-- the bits of 0 are zero bits
+pub zero-bits : (w : ℕ) → toBits w 0 ≡ replicate w false
+unfolding toBits
+zero-bits zero = refl
+zero-bits (suc w) = rw (zero-div, zero-bits w)
 
 -- a bit as a number is 0 or 1
 bit-number : (d : ℕ) → d < 2 → choose (eqb d 1) 1 0 ≡ d

@@ -1,11 +1,11 @@
 -- Laws of logs as rows of bits: bytes and rows turned into each other, fields read and rows laid over a buffer.
-use Prim.Native.Nat.{ℕ, zero, suc, _+_, _*_, _-_, _/_, _%_, _≤_, _<_}
+use Prim.Native.Nat.{ℕ, zero, suc, _+_, _*_, _-_, _/_, _%_, _^_, _≤_, _<_}
 use mathlib.Core.Path.{_≡_, refl, sym, ap, _∙_}
 use mathlib.Core.Bool.{Bool}
 use mathlib.Core.List.{List, [], _∷_, _++_, append-assoc, append-nil}
-use native.Mathlib.Nat.{div-add-mod, mul-div-cancel-left, mul-suc, add-comm, lt-of-lt-of-le}
+use native.Mathlib.Nat.{div-add-mod, mul-div-cancel-left, mul-suc, add-comm, lt-of-lt-of-le, min-le-left}
 use native.Mathlib.Omega.{arith}
-use lib.ListN.{length, getD, take, drop, length-append, length-take, length-drop, take-append-drop, drop-of-length-le}
+use lib.ListN.{length, take, drop, length-append, length-take, length-drop, take-append-drop, drop-of-length-le}
 use lib.Pow.{pow-mono}
 use lib.Seq.{sets, length-sets, sets-eq, take-all, take-at, drop-at, drop-append-add, drop-drop, drop-nil}
 use Rattle.packed_log.specs.Bits.{Bytes, toBits, num, bits, pack, bytes, field, put}
@@ -68,6 +68,10 @@ bytes-pack-eq : (n : ℕ) (r : List Bool) → length r ≡ 8 * n → bytes r ≡
 unfolding bytes
 bytes-pack-eq n r h = rw (h, mul-div-cancel-left n {n = 8} (omega arith))
 
+-- the row of the bytes of whole bytes is that row
+pub bits-bytes : (n : ℕ) (r : List Bool) → length r ≡ 8 * n → bits (bytes r) ≡ r
+bits-bytes n r h = ap bits (bytes-pack-eq n r h) ∙ bits-pack n r h
+
 -- the bytes of a log's row are the log
 pub bytes-bits : (l : List ℕ) → Bytes l → bytes (bits l) ≡ l
 bytes-bits l h = bytes-pack-eq (length l) (bits l) (length-bits l) ∙ pack-bits l h
@@ -87,8 +91,8 @@ bytes-put l p t = rw put-pack (bytes-pack (length l) (sets (bits l) p t))
 
 -- the row of a buffer after t was laid over it
 pub bits-put : (l : List ℕ) (p : ℕ) (t : List Bool) → bits (put l p t) ≡ sets (bits l) p t
-bits-put l p t =
-    ap bits (put-pack l p t) ∙ bits-pack (length l) (sets (bits l) p t) (length-sets (bits l) p t ∙ length-bits l)
+unfolding put
+bits-put l p t = bits-bytes (length l) (sets (bits l) p t) (length-sets (bits l) p t ∙ length-bits l)
 
 -- laying one row and then the next right behind it is laying both, joined
 pub put-put : (l : List ℕ) (p : ℕ) (t u : List Bool) → put (put l p t) (p + length t) u ≡ put l p (t ++ u)
@@ -104,6 +108,11 @@ field-put l p t h =
     let front : length (take p (bits l)) ≡ p = simp length-take (omega arith) in
     let laid : bits (put l p t) ≡ take p (bits l) ++ (t ++ drop (p + length t) (bits l)) = bits-put l p t ∙ rw append-assoc at (sets-eq t (bits l) p room) in
     rw (laid, drop-at (take p (bits l)) (t ++ drop (p + length t) (bits l)) p front, take-at t (drop (p + length t) (bits l)) (length t) refl)
+
+-- a field of w bits is below their power
+pub field-lt : (l : List ℕ) (p w : ℕ) → field l p w < 2 ^ w
+unfolding field
+field-lt l p w = lt-of-lt-of-le (num-lt (take w (drop p (bits l)))) (pow-mono {j = w} (rw length-take (min-le-left w (length (drop p (bits l))))))
 
 -- a field within the first of two parts is a field of that part
 pub field-left : (l m : List ℕ) (p w : ℕ) → p + w ≤ 8 * length l → field (l ++ m) p w ≡ field l p w

@@ -1,8 +1,18 @@
--- The laws of the definitions in specs/, a file for each.
+-- The laws of the definitions in specs/, by topic; OnePackedForm proves the claims of specs/Claims.
 pub mod BitRows
 pub mod BitsLaws
 pub mod Windows
 pub mod WidthLaws
 pub mod RowLaws
+pub mod OpeningFields
+pub mod OpeningTests
 pub mod WritingLaws
+pub mod Unrefused
+pub mod Standing
+pub mod ItemsReadBack
+pub mod StepsReadBack
+pub mod OpeningsReadBack
+pub mod LogsReadBack
+pub mod WriterCalls
+pub mod OnePackedForm
 pub mod Cases

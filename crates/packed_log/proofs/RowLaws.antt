@@ -1,15 +1,20 @@
--- Laws of steps and rows: each is got back from the other.
-use Prim.Native.Nat.{ℕ, zero, suc, _<_}
+-- Laws of steps and rows: each is got back from the other; the kinds of rows, and the room that their numbers have.
+use Prim.Native.Nat.{ℕ, zero, suc, _^_, _<_}
 use mathlib.Core.Path.{_≡_, refl}
+use mathlib.Core.Bool.{Bool, false}
 use native.Mathlib.Omega.{arith}
+use borrow.Author.Tests.{leb-false}
+use lib.Dec.{leb}
 use Rattle.register.specs.declared.sorts.Kind.{Kind}
 use Rattle.register.specs.declared.sorts.Kind.the-variants.{Proposal, Vote as AVote}
 use Rattle.register.specs.declared.step.Step.{Step}
 use Rattle.register.specs.declared.step.Step.the-variants.{Propose, Vote, Register, Finalise, Deliver, BadSend, Draft, Advance}
-use Rattle.words.specs.Tests.{choose}
+use Rattle.words.specs.Tests.{choose, either}
+use Rattle.words.proofs.Tests.{either-false-left, either-false-right}
 use Rattle.packed_log.specs.declared.row.Row.{Row}
 use Rattle.packed_log.specs.Rows.{row, kindNumber, kindOf, rowOf, stepOf, Within}
 use Rattle.packed_log.specs.Widths.{width, fields}
+use Rattle.packed_log.specs.Writing.{wide}
 
 -- a kind of message is got back from its number
 kind-number : (k : Kind) → kindOf (kindNumber k) ≡ k
@@ -86,3 +91,29 @@ step-rest r h1 h2 h3 h4 h5 h6 h7 = go (r .kind) refl
     go (suc (suc (suc (suc (suc (suc zero)))))) e = absurd (h6 e)
     go (suc (suc (suc (suc (suc (suc (suc zero))))))) e = absurd (h7 e)
     go (suc (suc (suc (suc (suc (suc (suc (suc k)))))))) e = rw e
+
+-- the kinds of the steps are 1 to 8
+pub step-kind : (s : Step) → (0 < rowOf s .kind) × (rowOf s .kind < 9)
+unfolding rowOf
+step-kind (Propose o p w) = (omega arith, omega arith)
+step-kind (Vote o m) = (omega arith, omega arith)
+step-kind (Register o m) = (omega arith, omega arith)
+step-kind (Finalise o b) = (omega arith, omega arith)
+step-kind (Deliver m o) = (omega arith, omega arith)
+step-kind (BadSend o k s b) = (omega arith, omega arith)
+step-kind (Draft p e w) = (omega arith, omega arith)
+step-kind Advance = (omega arith, omega arith)
+
+-- where no number of a row is too wide, each has room in its column
+pub within : (r : Row) → wide r ≡ false → Within r
+unfolding wide
+within r h =
+    let over : (column v : ℕ) → Bool = λ column v. leb (2 ^ width (r .kind) column) v in
+    let later : either (over 1 (r .second)) (either (over 2 (r .third)) (over 3 (r .fourth))) ≡ false = either-false-right (over 0 (r .first)) _ h in
+    let last : either (over 2 (r .third)) (over 3 (r .fourth)) ≡ false = either-false-right (over 1 (r .second)) _ later in
+    record {
+      first = leb-false _ (r .first) (either-false-left (over 0 (r .first)) _ h);
+      second = leb-false _ (r .second) (either-false-left (over 1 (r .second)) _ later);
+      third = leb-false _ (r .third) (either-false-left (over 2 (r .third)) _ last);
+      fourth = leb-false _ (r .fourth) (either-false-right (over 2 (r .third)) _ last);
+    }

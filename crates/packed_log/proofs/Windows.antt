@@ -47,7 +47,7 @@ field-three (a ∷ b ∷ []) p w room h = sym (field-left (a ∷ b ∷ []) (0 �
 field-three (a ∷ b ∷ c ∷ l) p w room h = field-left (a ∷ b ∷ c ∷ []) l p w h
 
 -- bytes from a place on are bytes
-bytes-drop : (f : ℕ) (l : List ℕ) → Bytes l → Bytes (drop f l)
+pub bytes-drop : (f : ℕ) (l : List ℕ) → Bytes l → Bytes (drop f l)
 bytes-drop f l h i = rw getD-drop (h (f + i))
 
 -- the window at a byte is the window at the front of the log from that byte on

@@ -3,24 +3,23 @@ use Prim.Native.Nat.{ℕ, zero, suc, _+_, _*_, _-_, _%_, _^_, _≤_, _<_, min}
 use mathlib.Core.Path.{_≡_, refl, sym}
 use mathlib.Core.Bool.{Bool, true, false, _||_}
 use mathlib.Core.List.{List, [], _∷_, _++_}
-use native.Mathlib.Nat.{zero-add, suc-add, zero-div, min-le-left, min-le-right}
+use native.Mathlib.Nat.{zero-add, suc-add, min-le-left, min-le-right}
+use native.Mathlib.Numerals.{add-one}
 use native.Mathlib.Omega.{arith}
-use borrow.Author.Tests.{leb-false, lt-ltb, le-ltb, ne-eqb}
-use lib.Dec.{leb}
+use borrow.Author.Tests.{lt-ltb, le-ltb, ne-eqb}
 use lib.ListN.{length, replicate, length-append, length-replicate}
 use Rattle.register.specs.declared.step.Step.{Step}
-use Rattle.register.specs.declared.step.Step.the-variants.{Propose, Vote, Register, Finalise, Deliver, BadSend, Draft, Advance}
 use Rattle.words.specs.Tests.{choose, either}
 use Rattle.words.specs.Refusals.{first}
-use Rattle.words.proofs.Tests.{either-false-left, either-false-right}
 use Rattle.packed_log.specs.declared.row.Row.{Row}
 use Rattle.packed_log.specs.declared.writing.Wrote.{Wrote}
 use Rattle.packed_log.specs.Bits.{toBits, put}
-use Rattle.packed_log.specs.Rows.{rowOf, Within}
+use Rattle.packed_log.specs.Rows.{rowOf}
 use Rattle.packed_log.specs.Widths.{width, due}
-use Rattle.packed_log.specs.Writing.{rowBits, stepBits, endBits, wide, short, stepRefused, endRefused, wrote, laid}
-use Rattle.packed_log.proofs.BitRows.{length-toBits}
+use Rattle.packed_log.specs.Writing.{trustBits, leaderBits, openingBits, rowBits, stepBits, endBits, wide, short, stepRefused, endRefused, wrote, laid}
+use Rattle.packed_log.proofs.BitRows.{length-toBits, zero-bits}
 use Rattle.packed_log.proofs.BitsLaws.{put-put}
+use Rattle.packed_log.proofs.RowLaws.{step-kind}
 
 -- what is laid where the row before it ends
 pub put-next : (l : List ℕ) (p : ℕ) (t u : List Bool) (q : ℕ) → q ≡ p + length t → put (put l p t) q u ≡ put l p (t ++ u)
@@ -45,21 +44,32 @@ put-row l p r w0 w1 w2 w3 e0 e1 e2 e3 =
       ← e3,
     )
 
--- a row takes four bits for its kind, and those that the kind's fields take
-pub length-rowBits : (r : Row) → length (rowBits r) ≡ 4 + due (r .kind)
+-- a row takes 4 bits for its kind, and those that are due for its fields
+pub length-row : (r : Row) → length (rowBits r) ≡ 4 + due (r .kind)
 unfolding rowBits due
-length-rowBits r = simp (length-append, length-toBits) (omega arith)
+length-row r = simp (length-append, length-toBits) (omega arith)
+
+-- n trust bits are n long
+pub length-trust : (n trust : ℕ) → length (trustBits n trust) ≡ n
+unfolding trustBits
+length-trust zero trust = refl
+length-trust (suc n) trust = rw (length-append, length-trust n trust) (add-one n)
+
+-- a leader takes 5 bits
+pub length-leaders : (schedule : List ℕ) → length (leaderBits schedule) ≡ 5 * length schedule
+unfolding leaderBits
+length-leaders [] = refl
+length-leaders (q ∷ schedule) = rw (length-append, length-toBits, length-leaders schedule) (omega arith)
+
+-- an opening takes 15 bits, one for each office and 5 for each leader
+pub length-opening : (n trust : ℕ) (schedule : List ℕ) → length (openingBits n trust schedule) ≡ 15 + n + 5 * length schedule
+unfolding openingBits
+length-opening n trust schedule = simp (length-append, length-toBits, length-trust, length-leaders) (omega arith)
 
 -- the end takes four bits for its kind, and those to the byte's end
-pub length-endBits : (p : ℕ) → length (endBits p) ≡ 4 + (8 - (p + 4) % 8) % 8
+pub length-end : (p : ℕ) → length (endBits p) ≡ 4 + (8 - (p + 4) % 8) % 8
 unfolding endBits
-length-endBits p = simp (length-append, length-toBits, length-replicate)
-
--- the w bits of 0 are zero bits
-zero-bits : (w : ℕ) → toBits w 0 ≡ replicate w false
-unfolding toBits
-zero-bits zero = refl
-zero-bits (suc w) = rw (zero-div, zero-bits w)
+length-end p = simp (length-append, length-toBits, length-replicate)
 
 -- zero bits joined to zero bits are zero bits
 replicate-append : {A : Type 0} (k m : ℕ) (a : A) → replicate k a ++ replicate m a ≡ replicate (k + m) a
@@ -71,7 +81,7 @@ pub end-zero : (p w : ℕ) → w ≡ length (endBits p) → toBits w 0 ≡ endBi
 unfolding endBits
 end-zero p w e =
     let k : ℕ = (8 - (p + 4) % 8) % 8 in
-    rw (e, length-endBits p, zero-bits (4 + k), zero-bits 4) (sym (replicate-append 4 k false))
+    rw (e, length-end p, zero-bits (4 + k), zero-bits 4) (sym (replicate-append 4 k false))
 
 -- the tests of four columns, joined
 pub or-four : (a b c d : Bool) → a || b || c || d ≡ either a (either b (either c d))
@@ -81,35 +91,6 @@ or-four false true c d = refl
 or-four false false true d = refl
 or-four false false false d = refl
 
--- where no number of a row is too wide, each has room in its column
-pub within : (r : Row) → wide r ≡ false → Within r
-unfolding wide
-within r h =
-    let over0 : Bool = leb (2 ^ width (r .kind) 0) (r .first) in
-    let over1 : Bool = leb (2 ^ width (r .kind) 1) (r .second) in
-    let over2 : Bool = leb (2 ^ width (r .kind) 2) (r .third) in
-    let over3 : Bool = leb (2 ^ width (r .kind) 3) (r .fourth) in
-    let from1 : either over1 (either over2 over3) ≡ false = either-false-right over0 (either over1 (either over2 over3)) h in
-    let from2 : either over2 over3 ≡ false = either-false-right over1 (either over2 over3) from1 in
-    record {
-      first = leb-false _ _ (either-false-left over0 (either over1 (either over2 over3)) h);
-      second = leb-false _ _ (either-false-left over1 (either over2 over3) from1);
-      third = leb-false _ _ (either-false-left over2 over3 from2);
-      fourth = leb-false _ _ (either-false-right over2 over3 from2);
-    }
-
--- the kind of a step is 1 to 8
-pub step-kind : (s : Step) → (0 < rowOf s .kind) × (rowOf s .kind < 9)
-unfolding rowOf
-step-kind (Propose o p w) = (omega arith, omega arith)
-step-kind (Vote o m) = (omega arith, omega arith)
-step-kind (Register o m) = (omega arith, omega arith)
-step-kind (Finalise o b) = (omega arith, omega arith)
-step-kind (Deliver m o) = (omega arith, omega arith)
-step-kind (BadSend o k s b) = (omega arith, omega arith)
-step-kind (Draft p e w) = (omega arith, omega arith)
-step-kind Advance = (omega arith, omega arith)
-
 -- the row of a step has one of the nine kinds
 pub row-kind : (s : Step) (r : Row) → r ≡ rowOf s → r .kind < 9
 row-kind s r e = rw e (step-kind s .1)
@@ -117,7 +98,7 @@ row-kind s r e = rw e (step-kind s .1)
 -- a step takes four bits for its kind, and those that the fields of its row take
 pub step-size : (s : Step) (r : Row) (d : ℕ) → r ≡ rowOf s → d ≡ due (r .kind) → 4 + d ≡ length (stepBits s)
 unfolding stepBits
-step-size s r d e size = rw (size, e) (sym (length-rowBits (rowOf s)))
+step-size s r d e size = rw (size, e) (sym (length-row (rowOf s)))
 
 -- what has room ends within the buffer, and starts within the longest log
 pub room-within : (n p room w : ℕ) → room ≡ 8 * min n 65536 - p → w ≤ room → 0 < w → (p + w ≤ 8 * n) × (p ≤ 524288)

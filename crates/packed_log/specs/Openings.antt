@@ -1,14 +1,13 @@
 -- The opening that stands at a log's start: n in 6 bits, n trust bits, the schedule's length in 9 bits and each leader in 5.
 use Prim.Native.Nat.{ℕ, zero, suc, _+_, _*_, _/_, min}
 use mathlib.Core.Bool.{not}
-use mathlib.Core.List.{List, [], _∷_}
+use mathlib.Core.List.{List, [], _∷_, _++_}
 use lib.Dec.{eqb, ltb}
 use lib.ListN.{length}
-use Rattle.words.specs.Tests.{choose}
+use Rattle.words.specs.Tests.{choose, between}
 use Rattle.words.specs.Digits.{fill}
 use Rattle.words.specs.Refusals.{Refusal, _⇒_, first}
 use Rattle.register.specs.declared.table.Register.{Register}
-use Rattle.register.specs.Fitness.{between}
 use Rattle.register.specs.Opening.{untrusted, tooMany, stray, closed, fresh}
 use Rattle.packed_log.specs.declared.opening.Opening.{Opening}
 use Rattle.packed_log.specs.Bits.{field}
@@ -35,19 +34,24 @@ leadersAt log p (suc k) = field log p 5 ∷ leadersAt log (p + 5) k
 unfoldable pub thereIn : (log : List ℕ) → (n k : ℕ) → ℕ
 thereIn log n k = min k (left log (15 + n) / 5)
 
--- 30 stands first; then the leftmost fault decides: 27 where the log ends before or inside a field, 1 at n, 2 at the length, 3 at its
--- leader, and 4 after the last leader
-abbrev pub openingTestsIn : (log : List ℕ) → (n k : ℕ) → List Refusal
-openingTestsIn log n k =
-    (ltb 65536 (length log) ⇒ 30)
-    ∷ (ltb (left log 0) 6 ⇒ 27)
-    ∷ (not (between 1 32 n) ⇒ 1)
-    ∷ (ltb (left log 6) (n + 9) ⇒ 27)
-    ∷ (not (between 1 256 k) ⇒ 2)
-    ∷ (stray n (leadersAt log (15 + n) (thereIn log n k)) ⇒ 3)
+-- 30 stands first; then the leftmost fault decides: 27 where the log ends before or inside a field, 1 at n
+abbrev pub countTests : (log : List ℕ) → (n : ℕ) → List Refusal
+countTests log n = (ltb 65536 (length log) ⇒ 30) ∷ (ltb (left log 0) 6 ⇒ 27) ∷ (not (between 1 32 n) ⇒ 1) ∷ []
+
+-- 27 inside the trust bits or the length, 2 at the length
+abbrev pub lengthTests : (log : List ℕ) → (n k : ℕ) → List Refusal
+lengthTests log n k = (ltb (left log 6) (n + 9) ⇒ 27) ∷ (not (between 1 256 k) ⇒ 2) ∷ []
+
+-- 3 at a leader that is wholly there, 27 at the first that is not, 4 after the last
+abbrev pub leaderTests : (log : List ℕ) → (n k : ℕ) → List Refusal
+leaderTests log n k =
+    (stray n (leadersAt log (15 + n) (thereIn log n k)) ⇒ 3)
     ∷ (ltb (thereIn log n k) k ⇒ 27)
     ∷ (tooMany (untrusted n (trustIn log n)) n ⇒ 4)
     ∷ []
+
+abbrev pub openingTestsIn : (log : List ℕ) → (n k : ℕ) → List Refusal
+openingTestsIn log n k = countTests log n ++ lengthTests log n k ++ leaderTests log n k
 
 unfoldable pub openingRefusalIn : (log : List ℕ) → ℕ
 openingRefusalIn log = first (openingTestsIn log (countIn log) (lengthIn log (countIn log)))

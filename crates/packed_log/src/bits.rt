@@ -1,9 +1,16 @@
 // Fields of a log, most significant bit first: reading one, and writing one into a buffer.
 ghost use mathlib.Core.Path.{_≡_};
-ghost use Prim.Native.Nat.{_+_, _*_, _/_, _%_, _^_, _≤_, _<_};
+ghost use Prim.Native.Nat.{_+_, _*_, _/_, _%_, _^_, _≤_, _<_, min};
 ghost use lib.ListN.{length, getD, set};
 ghost use Rattle.packed_log.specs.Bits.{toBits, field, put};
 ghost use Rattle.packed_log.specs.Windows.{window, over};
+
+// The lesser of two lengths.
+pub(crate) fn shorter(a: usize, b: usize) -> usize
+    ensures { λ r. ⌜ r ≡ min a b ⌝ }
+{
+    if a < b { a } else { b }
+}
 
 // Byte i of the log; 0 past its end.
 fn byte_at(log: &[u8], i: usize) -> u32

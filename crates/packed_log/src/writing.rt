@@ -7,6 +7,7 @@ ghost use Rattle.packed_log.specs.Bits.{put};
 ghost use Rattle.packed_log.specs.Rows.{Within};
 ghost use Rattle.packed_log.specs.Widths.{due};
 ghost use Rattle.packed_log.specs.Writing.{rowBits, stepBits, endBits, wide, stepRefused, endRefused, wrote, laid};
+use crate::bits::shorter;
 use crate::bits::write_bits;
 use crate::item::LONGEST;
 use crate::refusal;
@@ -32,13 +33,6 @@ fn room_of(buf: &[u8], at: usize) -> usize
         return 0;
     }
     total - at
-}
-
-// The lesser of two lengths.
-fn shorter(a: usize, b: usize) -> usize
-    ensures { λ r. ⌜ r ≡ min a b ⌝ }
-{
-    if a < b { a } else { b }
 }
 
 // The number has no room in so many bits.

@@ -8,7 +8,7 @@ use borrow.Author.Tests.{eq-eqb, leb-false, not-false}
 use lib.ListN.{length, length-replicate, getD-replicate, List·getD-append}
 use Rattle.words.specs.Tests.{choose}
 use Rattle.words.specs.Refusals.{Refusal}
-use Rattle.words.proofs.Tests.{both-left, any-none}
+use Rattle.words.proofs.Tests.{both-left, any-none, between-true}
 use Rattle.words.proofs.Refusals.{numbered, cleared}
 use Rattle.register.specs.declared.step.Step.{Step}
 use Rattle.register.specs.declared.table.Register.{Register}
@@ -17,7 +17,6 @@ use Rattle.register.specs.Fitness.{fit}
 use Rattle.register.specs.Opening.{stray, openingTests, openingRefusal, leaderTable, blank, closed, fresh, opening}
 use Rattle.register.specs.Steps.{ruleOf, judged, stepRule, quickRule}
 use Rattle.register.specs.Promises.{OpeningsAreFit, answers, QuickAgrees}
-use Rattle.register.proofs.FitnessLaws.{between-true}
 use Rattle.register.proofs.FitSteps.{ranges-step}
 use Rattle.register.proofs.Ranges.{Ranges, ranges-fit}
 

@@ -5,16 +5,10 @@ use mathlib.Core.Bool.{Bool, true, false, _&&_}
 use mathlib.Core.List.{[], _∷_}
 use borrow.Author.Tests.{leb-true}
 use lib.Dec.{leb}
-use Rattle.words.specs.Tests.{both, conj}
-use Rattle.words.proofs.Tests.{both-left, both-right, and-four}
+use Rattle.words.specs.Tests.{both, conj, between}
+use Rattle.words.proofs.Tests.{both-left, both-right, and-four, between-true}
 use Rattle.register.specs.declared.table.Register.{Register}
-use Rattle.register.specs.Fitness.{between, countsFit, leadersFit, blocksFit, messagesFit, finalsFit, tablesFit, fit}
-
--- the range that the test is made for
-pub between-true : (low high k : ℕ) → between low high k ≡ true → (low ≤ k) × (k ≤ high)
-unfolding between
-between-true low high k h =
-    (leb-true low k (both-left (leb low k) (leb k high) h), leb-true k high (both-right (leb low k) (leb k high) h))
+use Rattle.register.specs.Fitness.{countsFit, leadersFit, blocksFit, messagesFit, finalsFit, tablesFit, fit}
 
 -- the single numbers are in their ranges
 pub record Counts (n length epoch count : ℕ) : Type 0 where

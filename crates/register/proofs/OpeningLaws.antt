@@ -8,12 +8,12 @@ use borrow.Author.Tests.{not-false}
 use lib.Dec.{eqb}
 use lib.ListN.{length, take, set, getD, replicate}
 use lib.Seq.{take-suc, length-take-le, append-snoc, set-at}
+use Rattle.words.proofs.Tests.{between-true}
 use Rattle.words.specs.Tests.{choose}
 use Rattle.words.specs.Digits.{digit}
 use Rattle.words.proofs.Refusals.{numbered, cleared}
 use Rattle.words.proofs.Sums.{tally-not}
 use Rattle.register.specs.Opening.{untrusted, openingRefusal, leaderTable}
-use Rattle.register.proofs.FitnessLaws.{between-true}
 
 -- at most n offices of n are untrusted
 pub untrusted-most : (n trust : ℕ) → untrusted n trust ≤ n

@@ -6,12 +6,12 @@ use mathlib.Core.List.{[], _∷_}
 use borrow.Author.Tests.{ltb-true, leb-true, lt-ltb, le-leb}
 use lib.Dec.{ltb, leb}
 use lib.ListN.{length, getD}
-use Rattle.words.specs.Tests.{both, either, conj}
-use Rattle.words.proofs.Tests.{clash, both-left, both-right, both-make, all-at, all-make}
+use Rattle.words.specs.Tests.{both, either, conj, between}
+use Rattle.words.proofs.Tests.{clash, both-left, both-right, both-make, all-at, all-make, between-true, between-make}
 use Rattle.register.specs.declared.table.Register.{Register}
 use Rattle.register.specs.Tables.{trusted, sentOf, finalOf}
-use Rattle.register.specs.Fitness.{between, countsFit, leadersFit, blockFits, blocksFit, messageFits, messagesFit, finalsFit, tablesFit, fit}
-use Rattle.register.proofs.FitnessLaws.{between-true, Counts, counts-hold}
+use Rattle.register.specs.Fitness.{countsFit, leadersFit, blockFits, blocksFit, messageFits, messagesFit, finalsFit, tablesFit, fit}
+use Rattle.register.proofs.FitnessLaws.{Counts, counts-hold}
 
 -- every number of the register is in its range, and the table of the messages' blocks has its size
 pub record Ranges (r : Register) : Type 0 where
@@ -39,11 +39,6 @@ implies false u h = refl
 four : (a b c d : Bool) → a ≡ true → b ≡ true → c ≡ true → d ≡ true → conj (a ∷ b ∷ c ∷ d ∷ []) ≡ true
 unfolding conj
 four a b c d p q s t = both-make _ _ p (both-make _ _ q (both-make _ _ s (both-make _ _ t refl)))
-
--- a number in a range passes the range's test
-in-range : (low high k : ℕ) → (low ≤ k) × (k ≤ high) → between low high k ≡ true
-unfolding between
-in-range low high k h = both-make _ _ (le-leb low k (h .0)) (le-leb k high (h .1))
 
 module _ {r : Register} where
   -- the numbers of a fit register are in their ranges
@@ -75,8 +70,8 @@ module _ {r : Register} where
   ranges-fit z =
       let c : Counts (r .n) (r .length) (r .epoch .0) (r .count) = z .counts in
       both-make _ _
-      (four _ _ _ _ (in-range _ _ _ (c .offices)) (in-range _ _ _ (c .schedule)) (in-range _ _ _ (c .current)) (le-leb _ _ (c .messages)))
+      (four _ _ _ _ (between-make _ _ _ (c .offices)) (between-make _ _ _ (c .schedule)) (between-make _ _ _ (c .current)) (le-leb _ _ (c .messages)))
       (four _ _ _ _ (all-make _ _ (λ i l. lt-ltb _ _ (z .leaders i l)))
       (all-make _ _ (λ k l. both-make _ _ (lt-ltb _ _ (z .blocks k l .0)) (le-leb _ _ (z .blocks k l .1))))
-      (all-make _ _ (λ m l. both-make _ _ (lt-ltb _ _ (z .messages m l .0)) (in-range _ _ _ (z .messages m l .1))))
+      (all-make _ _ (λ m l. both-make _ _ (lt-ltb _ _ (z .messages m l .0)) (between-make _ _ _ (z .messages m l .1))))
       (all-make _ _ (λ q l. implies _ _ (λ t. le-leb _ _ (z .finals q l t)))))

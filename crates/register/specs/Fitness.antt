@@ -4,13 +4,9 @@ use mathlib.Core.Bool.{Bool, not}
 use mathlib.Core.List.{[], _∷_}
 use lib.Dec.{ltb, leb}
 use lib.ListN.{getD}
-use Rattle.words.specs.Tests.{both, either, conj, all}
+use Rattle.words.specs.Tests.{both, either, conj, all, between}
 use Rattle.register.specs.declared.table.Register.{Register}
 use Rattle.register.specs.Tables.{trusted, signerOf, blockOf, finalOf}
-
--- low ≤ k ≤ high
-unfoldable pub between : ℕ → ℕ → ℕ → Bool
-between low high k = both (leb low k) (leb k high)
 
 -- the single numbers: offices, schedule length, epoch and number of messages. (The number of blocks is a u8 and at most 255.)
 unfoldable pub countsFit : Register → Bool

@@ -4,14 +4,13 @@ use mathlib.Core.Bool.{Bool, false, not}
 use mathlib.Core.List.{List, [], _∷_, _++_}
 use lib.Dec.{eqb, leb}
 use lib.ListN.{length, getD, replicate}
-use Rattle.words.specs.Tests.{choose, any}
+use Rattle.words.specs.Tests.{choose, any, between}
 use Rattle.words.specs.Sums.{tally}
 use Rattle.words.specs.Digits.{digit, fill}
 use Rattle.words.specs.Refusals.{Refusal, _⇒_, first}
 use Rattle.register.specs.declared.table.Register.{Register}
 use Rattle.register.specs.declared.table.Opened.{Opened}
 use Rattle.register.specs.Tables.{epoch, block}
-use Rattle.register.specs.Fitness.{between}
 
 -- how many of the n offices have the trust bit 0
 unfoldable pub untrusted : (n : ℕ) → (trust : ℕ) → ℕ

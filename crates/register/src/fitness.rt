@@ -5,29 +5,22 @@ ghost use mathlib.Core.List.{[], _∷_};
 ghost use Prim.Native.Nat.{_+_, _≤_};
 ghost use lib.Dec.{eqb, ltb, leb};
 ghost use lib.ListN.{getD};
-ghost use Rattle.words.specs.Tests.{both, either, conj, all};
+ghost use Rattle.words.specs.Tests.{both, either, conj, all, between};
 ghost use Rattle.words.specs.Digits.{digit};
 ghost use Rattle.register.specs.Tables.{trustedIn};
-ghost use Rattle.register.specs.Fitness.{between, blockFits, messageFits, fit};
+ghost use Rattle.register.specs.Fitness.{blockFits, messageFits, fit};
 use crate::sorts::Block;
 use crate::sorts::Epoch;
 use crate::sorts::Office;
 use crate::table::Register;
 
-// low ≤ k ≤ high
-pub(crate) fn between(low: usize, high: usize, k: usize) -> bool
-    ensures { λ r. ⌜ r ≡ between low high k ⌝ }
-{
-    (low <= k) & (k <= high)
-}
-
 // The single numbers are in their ranges.
 pub(crate) fn counts_fit(n: u8, length: u16, epoch: Epoch, count: u16) -> bool
     ensures { λ r. ⌜ r ≡ conj (between 1 32 n ∷ between 1 256 length ∷ between 1 length (epoch .0) ∷ leb count 1024 ∷ []) ⌝ }
 {
-    between(1, 32, n as usize)
-        & between(1, 256, length as usize)
-        & between(1, length as usize, epoch.0 as usize)
+    words::between(1, 32, n as usize)
+        & words::between(1, 256, length as usize)
+        & words::between(1, length as usize, epoch.0 as usize)
         & (count <= 1024)
 }
 

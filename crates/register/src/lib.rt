@@ -3,7 +3,7 @@ mod chain;
 mod change;
 mod fitness;
 mod notary;
-mod opening;
+pub mod opening;
 mod read;
 pub mod refusal;
 pub mod run;

@@ -3,7 +3,6 @@ ghost use mathlib.Core.Path.{_≡_};
 ghost use Prim.Native.Nat.{_≤_};
 ghost use lib.ListN.{length};
 ghost use Rattle.register.specs.Opening.{untrusted, stray, openingRefusal, leaderTable, blank, closed, fresh, opening};
-use crate::fitness::between;
 use crate::refusal;
 use crate::sorts::Block;
 use crate::sorts::Epoch;
@@ -35,10 +34,10 @@ fn has_stray(n: u8, schedule: &[u8]) -> bool
 fn opening_refusal(n: u8, trust: u32, schedule: &[u8]) -> u8
     ensures { λ r. ⌜ r ≡ openingRefusal n trust (now (schedule .entry)) ⌝ }
 {
-    if !between(1, 32, n as usize) {
+    if !words::between(1, 32, n as usize) {
         return refusal::COUNT;
     }
-    if !between(1, 256, schedule.len()) {
+    if !words::between(1, 256, schedule.len()) {
         return refusal::SCHEDULE;
     }
     if has_stray(n, schedule) {
@@ -89,7 +88,7 @@ fn blank(n: u8, trust: u32, length: u16, epoch: u16, leaders: [u8; 256]) -> Regi
 }
 
 // The register of a refused opening: no offices, and every other field 0, empty or ready.
-fn closed() -> Register
+pub fn closed() -> Register
     ensures { λ r. ⌜ r ≡ closed ⌝ }
 {
     blank(0, 0, 0, 0, [0; 256])

@@ -2,7 +2,7 @@
 use Prim.Native.Nat.{ℕ, suc, _<_}
 use mathlib.Core.Path.{_≡_, refl}
 use mathlib.Core.Bool.{Bool, true, false}
-use mathlib.Core.List.{List, [], _∷_}
+use mathlib.Core.List.{List, [], _∷_, _++_}
 use native.Mathlib.Omega.{arith}
 use borrow.Author.Tests.{eqb-true, eqb-false, ltb-true}
 use lib.Dec.{eqb, ltb}
@@ -75,3 +75,36 @@ first-late k (r ∷ rs) p none = by (eqb k (r .number)) none (first-late k rs (b
         → first (r ∷ rs) ≡ first (choose e (r ∷ rs) (since k rs))
     by true none tail = unfold choose in refl
     by false none tail = unfold first choose in late-entry (r .test) (r .number) (first (until k rs)) (first rs) _ pos none tail
+
+-- of two lists of tests, the first decides where it refuses
+pub first-before : (rs ss : List Refusal) → (first rs ≡ 0 → ⊥) → first (rs ++ ss) ≡ first rs
+unfolding first
+first-before [] ss some = absurd (some refl)
+first-before (r ∷ rs) ss some = early-entry (r .test) (r .number) (first (rs ++ ss)) (first rs) some (first-before rs ss)
+
+-- where it does not, the second decides
+pub first-behind : (rs ss : List Refusal) → positive rs ≡ true → first rs ≡ 0 → first (rs ++ ss) ≡ first ss
+unfolding first positive
+first-behind [] ss p none = refl
+first-behind (r ∷ rs) ss p none =
+    late-entry (r .test) (r .number) (first rs) (first (rs ++ ss)) (first ss) (ltb-true 0 (r .number) (both-left _ _ p)) none (first-behind rs ss (both-right _ _ p))
+
+-- each test of a list fails
+unfoldable pub Clear : List Refusal → Type 0
+Clear [] = record {}
+Clear (r ∷ rs) = (r .test ≡ false) × Clear rs
+
+-- one entry's part in `first-clear`
+clear-entry : (t : Bool) (m f : ℕ) → 0 < m → choose t m f ≡ 0 → (t ≡ false) × (f ≡ 0)
+unfolding choose
+clear-entry true m f pos h = absurd (omega arith)
+clear-entry false m f pos h = (refl, h)
+
+-- where a list refuses nothing, and none of its numbers is 0, each test fails
+pub first-clear : (rs : List Refusal) → positive rs ≡ true → first rs ≡ 0 → Clear rs
+unfolding Clear first positive
+first-clear [] p h = record {}
+first-clear (r ∷ rs) p h =
+    let pos : 0 < r .number = ltb-true 0 (r .number) (both-left (ltb 0 (r .number)) (positive rs) p) in
+    let none : (r .test ≡ false) × (first rs ≡ 0) = clear-entry (r .test) (r .number) (first rs) pos h in
+    (none .0, first-clear rs (both-right (ltb 0 (r .number)) (positive rs) p) (none .1))

@@ -8,9 +8,9 @@ use native.Mathlib.Nat.{add-zero, add-suc}
 use native.Mathlib.Omega.{arith}
 use native.Mathlib.Numerals.{add-one}
 use native.Mathlib.Decide.{ℕ-discrete}
-use borrow.Author.Tests.{eqb-true, eq-eqb}
-use lib.Dec.{eqb}
-use Rattle.words.specs.Tests.{choose, both, either, agree, all, any, every, member, lowest, conj}
+use borrow.Author.Tests.{eqb-true, eq-eqb, leb-true, le-leb}
+use lib.Dec.{eqb, leb}
+use Rattle.words.specs.Tests.{choose, both, either, agree, between, all, any, every, member, lowest, conj}
 
 -- no test both holds and fails
 pub clash : {A : Type 0} {t : Bool} → t ≡ true → t ≡ false → A
@@ -270,3 +270,14 @@ pub every-both : (p q : ℕ → Bool) (xs : List ℕ) → both (every p xs) (eve
 unfolding every both
 every-both p q [] = refl
 every-both p q (x ∷ xs) = rw (← every-both p q xs) (both-swap (p x) (q x) (every p xs) (every q xs))
+
+-- the range that the test is made for
+pub between-true : (low high k : ℕ) → between low high k ≡ true → (low ≤ k) × (k ≤ high)
+unfolding between
+between-true low high k h =
+    (leb-true low k (both-left (leb low k) (leb k high) h), leb-true k high (both-right (leb low k) (leb k high) h))
+
+-- a number in a range passes the range's test
+pub between-make : (low high k : ℕ) → (low ≤ k) × (k ≤ high) → between low high k ≡ true
+unfolding between
+between-make low high k h = both-make _ _ (le-leb low k (h .0)) (le-leb k high (h .1))

@@ -2,7 +2,7 @@
 use Prim.Native.Nat.{ℕ, zero, suc}
 use mathlib.Core.Bool.{Bool, true, false}
 use mathlib.Core.List.{List, [], _∷_}
-use lib.Dec.{eqb}
+use lib.Dec.{eqb, leb}
 
 -- the first value where the test holds, else the second
 unfoldable pub choose : {A : Type 0} → Bool → A → A → A
@@ -25,6 +25,10 @@ agree true true = true
 agree true false = false
 agree false true = false
 agree false false = true
+
+-- a number in a range, whose ends belong to it
+unfoldable pub between : (low high : ℕ) → ℕ → Bool
+between low high k = both (leb low k) (leb k high)
 
 -- every test of a list holds
 unfoldable pub conj : List Bool → Bool

@@ -3,6 +3,7 @@
 ghost use mathlib.Core.Path.{_≡_};
 ghost use Prim.Native.Nat.{_%_, _^_, min};
 ghost use lib.Dec.{eqb};
+ghost use Rattle.words.specs.Tests.{between};
 ghost use Rattle.words.specs.Digits.{digit, raise, fill};
 ghost use Rattle.words.specs.Sums.{tally};
 
@@ -103,4 +104,11 @@ pub fn spread(set: u32, n: u8) -> u64
         q += 1;
     }
     word
+}
+
+// low ≤ k ≤ high
+pub fn between(low: usize, high: usize, k: usize) -> bool
+    ensures { λ r. ⌜ r ≡ between low high k ⌝ }
+{
+    (low <= k) & (k <= high)
 }

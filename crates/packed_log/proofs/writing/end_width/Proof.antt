@@ -1,7 +1,7 @@
 -- `packed_log::writing::end_width`: counts the bits of the end.
 use borrow.Author.Needs.{needs}
 use native.Mathlib.Omega.{arith}
-use Rattle.packed_log.proofs.WritingLaws.{length-endBits}
+use Rattle.packed_log.proofs.WritingLaws.{length-end}
 use Rattle.packed_log.proofs.writing.end_width.Statement.{statement}
 use Rattle.packed_log.proofs.writing.end_width.Tie as tie
 
@@ -12,7 +12,7 @@ add-result : tie.Need-add-result
 add-result c = search needs
 
 returns : tie.Need-returns
-returns c = (rw (length-endBits (c .args .at)) (omega arith), omega arith)
+returns c = (rw (length-end (c .args .at)) (omega arith), omega arith)
 
 pub end-width-spec : {M : Type 1} → statement M
 end-width-spec = tie.close (tie.spec sub-result add-result returns)

@@ -7,7 +7,7 @@ use mathlib.Core.List.{List}
 use native.Mathlib.Omega.{arith}
 use lib.Pow.{pow-pos}
 use Rattle.packed_log.specs.Writing.{endBits, short, endRefused}
-use Rattle.packed_log.proofs.WritingLaws.{length-endBits, room-within, end-zero, short-room, long-room, end-short, end-fits, call-refused, call-laid}
+use Rattle.packed_log.proofs.WritingLaws.{length-end, room-within, end-zero, short-room, long-room, end-short, end-fits, call-refused, call-laid}
 use Rattle.packed_log.proofs.writing.write_end.Statement.{statement}
 use Rattle.packed_log.proofs.writing.write_end.Tie as tie
 
@@ -35,7 +35,7 @@ write-bits-requires c κs =
     let at-room-of = at-if1 .before in
     let at-end-width = at-room-of .before .before in
     let size = at-end-width .end-width .result in
-    (omega arith, room-within _ _ _ size (at-room-of .room-of .ensures .0) (at-if1 .if1 .left) (omega (arith, length-endBits (at-end-width .before .before .args .at))) .0, pow-pos size)
+    (omega arith, room-within _ _ _ size (at-room-of .room-of .ensures .0) (at-if1 .if1 .left) (omega (arith, length-end (at-end-width .before .before .args .at))) .0, pow-pos size)
 
 add-t4 : tie.Need-add-t4
 add-t4 c = search needs

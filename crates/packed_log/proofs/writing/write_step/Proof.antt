@@ -8,7 +8,8 @@ use native.Mathlib.Omega.{arith}
 use Rattle.register.specs.declared.step.Step.{Step}
 use Rattle.packed_log.specs.Rows.{rowOf}
 use Rattle.packed_log.specs.Writing.{stepBits, wide, short, stepRefused}
-use Rattle.packed_log.proofs.WritingLaws.{within, row-kind, step-size, room-within, short-room, long-room, step-wide, step-short, step-fits, call-refused, call-laid}
+use Rattle.packed_log.proofs.RowLaws.{within}
+use Rattle.packed_log.proofs.WritingLaws.{row-kind, step-size, room-within, short-room, long-room, step-wide, step-short, step-fits, call-refused, call-laid}
 use Rattle.packed_log.proofs.writing.write_step.Statement.{statement}
 use Rattle.packed_log.proofs.writing.write_step.Tie as tie
 

@@ -1,6 +1,7 @@
 -- `register::fitness::message_fits` makes the three tests.
+use Rattle.words.specs.Tests.{between}
 use Rattle.words.proofs.Tests.{and-both}
-use Rattle.register.specs.Fitness.{between, messageFits}
+use Rattle.register.specs.Fitness.{messageFits}
 use Rattle.register.proofs.fitness.message_fits.Statement.{statement}
 use Rattle.register.proofs.fitness.message_fits.Tie as tie
 

@@ -6,9 +6,8 @@ use mathlib.Core.Bool.{true, false}
 use native.Mathlib.Omega.{arith}
 use borrow.Author.Tests.{not-true, not-false, le-leb, lt-leb}
 use lib.ListN.{length}
-use Rattle.words.specs.Tests.{choose}
+use Rattle.words.specs.Tests.{choose, between}
 use Rattle.words.specs.Refusals.{first}
-use Rattle.register.specs.Fitness.{between}
 use Rattle.register.specs.Opening.{untrusted, tooMany, stray, openingRefusal}
 use Rattle.register.proofs.OpeningLaws.{untrusted-most}
 use Rattle.register.proofs.opening.opening_refusal.Statement.{statement}

@@ -1,0 +1,246 @@
+-- Openings: one that stands at a log's start is read there, and what is read there stands there.
+use Prim.Native.Nat.{ℕ, zero, suc, _+_, _*_, _-_, _≤_, _<_}
+use mathlib.Core.Path.{_≡_, refl, sym, ap, _∙_}
+use mathlib.Core.Bool.{Bool, false}
+use mathlib.Core.List.{List, [], _∷_, _++_, append-assoc}
+use native.Mathlib.Nat.{add-zero, div-one, mod-eq-of-lt}
+use native.Mathlib.Omega.{arith}
+use borrow.Author.Tests.{ltb-false, leb-false, le-ltb}
+use lib.Dec.{eqb, leb, eqb·suc-zero}
+use lib.ListN.{length, getD, take, drop, length-append}
+use lib.Seq.{take-at}
+use Rattle.words.specs.Tests.{choose, both}
+use Rattle.words.specs.Digits.{digit, fill}
+use Rattle.words.proofs.Digits.{digit-lt, digit-fill, fill-ext}
+use Rattle.words.specs.Refusals.{first}
+use Rattle.words.proofs.Refusals.{positive, Clear, first-clear}
+use Rattle.words.proofs.Sums.{tally-ext}
+use Rattle.words.proofs.Tests.{any-none, between-true}
+use Rattle.register.specs.declared.table.Register.{Register}
+use Rattle.register.specs.Opening.{untrusted, stray, openingRefusal, leaderTable, blank, fresh}
+use Rattle.packed_log.specs.Bits.{toBits, bits, field}
+use Rattle.packed_log.specs.Items.{left}
+use Rattle.packed_log.specs.Openings.{countIn, trustIn, lengthIn, leadersAt, thereIn, openingTestsIn, openingRefusalIn, opened, openedBy, openingIn}
+use Rattle.packed_log.specs.Writing.{trustBits, leaderBits, openingBits}
+use Rattle.packed_log.proofs.BitsLaws.{field-lt}
+use Rattle.packed_log.proofs.WritingLaws.{length-trust, length-leaders, length-opening}
+use Rattle.packed_log.proofs.Unrefused.{Accepted, accepted}
+use Rattle.packed_log.proofs.OpeningFields.{length-leadersAt}
+use Rattle.packed_log.proofs.Standing.{Stands, left-stands, stands-behind, value-stands, value-behind, stands-field}
+
+-- a digit of base 2 as a row of one bit
+bit-row : (d : ℕ) → d < 2 → toBits 1 d ≡ eqb d 1 ∷ []
+unfolding toBits
+bit-row d h = rw (div-one, mod-eq-of-lt h)
+
+-- trust bits that stand at a position are read there
+trust-reads : (log : List ℕ) (p n trust : ℕ) (u : List Bool) → Stands log p (trustBits n trust ++ u)
+    → fill 2 n (λ q. field log (p + q) 1) ≡ fill 2 n (digit 2 trust)
+unfolding fill trustBits
+trust-reads log p zero trust u h = refl
+trust-reads log p (suc n) trust u h =
+    let d : ℕ = digit 2 trust n in
+    let small : d < 2 = digit-lt 2 trust n (omega arith) in
+    let stands : Stands log p (trustBits n trust ++ (toBits 1 d ++ u)) = rw bit-row (rw append-assoc at h) in
+    let behind : Stands log (p + n) (toBits 1 d ++ u) = rw length-trust at (stands-behind log p (trustBits n trust) _ stands) in
+    rw (trust-reads log p n trust _ stands, value-stands log (p + n) 1 d u behind small)
+
+-- where words are filled alike, the bits that fill the one are the digits that fill the other
+word-digit : (log : List ℕ) (p n trust : ℕ) → fill 2 n (λ q. field log (p + q) 1) ≡ fill 2 n (digit 2 trust)
+    → (q : ℕ) → q < n → field log (p + q) 1 ≡ digit 2 trust q
+word-digit log p n trust h q l =
+    sym (digit-fill 2 n (λ i. field log (p + i) 1) (λ i. field-lt log (p + i) 1) q l)
+    ∙ ap (λ (word : ℕ). digit 2 word q) h
+    ∙ digit-fill 2 n (digit 2 trust) (λ i. digit-lt 2 trust i (omega arith)) q l
+
+-- trust bits that are read stand there
+trust-stands : (log : List ℕ) (p n trust : ℕ) → p + n ≤ 8 * length log → ((q : ℕ) → q < n → field log (p + q) 1 ≡ digit 2 trust q)
+    → Stands log p (trustBits n trust ++ drop (p + n) (bits log))
+unfolding trustBits
+trust-stands log p zero trust room same = rw add-zero
+trust-stands log p (suc n) trust room same =
+    let d : ℕ = digit 2 trust n in
+    let bit : toBits 1 d ≡ eqb d 1 ∷ [] = bit-row d (digit-lt 2 trust n (omega arith)) in
+    let next : p + n + 1 ≡ p + suc n = omega arith in
+    let last : Stands log (p + n) ((eqb d 1 ∷ []) ++ drop (p + suc n) (bits log)) =
+    rw (same n (omega arith), bit, next) at (stands-field log (p + n) 1 (omega arith)) in
+    trust-stands log p n trust (omega arith) (λ q h. same q (omega arith)) ∙ rw (last, append-assoc)
+
+-- leaders that stand at a position are read there
+leaders-read : (log : List ℕ) (p : ℕ) (schedule : List ℕ) (u : List Bool) → ((i : ℕ) → i < length schedule → getD schedule i 0 < 32)
+    → Stands log p (leaderBits schedule ++ u) → leadersAt log p (length schedule) ≡ schedule
+unfolding leadersAt leaderBits
+leaders-read log p [] u small h = refl
+leaders-read log p (q ∷ schedule) u small h =
+    let stands : Stands log p (toBits 5 q ++ (leaderBits schedule ++ u)) = rw append-assoc at h in
+    let behind : Stands log (p + 5) (leaderBits schedule ++ u) = value-behind log p 5 q _ stands in
+    let rest : leadersAt log (p + 5) (length schedule) ≡ schedule = leaders-read log (p + 5) schedule u (λ i l. small (suc i) (omega arith)) behind in
+    rw (value-stands log p 5 q _ stands (small 0 (omega arith)), rest)
+
+-- leaders that are read stand there
+leaders-stand : (log : List ℕ) (p k : ℕ) → p + 5 * k ≤ 8 * length log
+    → Stands log p (leaderBits (leadersAt log p k) ++ drop (p + 5 * k) (bits log))
+unfolding leadersAt leaderBits
+leaders-stand log p zero room = rw add-zero
+leaders-stand log p (suc k) room =
+    let next : p + 5 + 5 * k ≡ p + 5 * suc k = omega arith in
+    let rest : Stands log (p + 5) (leaderBits (leadersAt log (p + 5) k) ++ drop (p + 5 * suc k) (bits log)) =
+    rw next at (leaders-stand log (p + 5) k (omega arith)) in
+    stands-field log p 5 (omega arith) ∙ rw (rest, append-assoc)
+
+-- a filled word is filled by its own digits
+fill-again : (n : ℕ) (f : ℕ → ℕ) → ((q : ℕ) → f q < 2) → fill 2 n (digit 2 (fill 2 n f)) ≡ fill 2 n f
+fill-again n f small = fill-ext 2 n (digit 2 (fill 2 n f)) f (digit-fill 2 n f small)
+
+-- as many offices are untrusted by a word as by its digits below n
+untrusted-again : (n trust : ℕ) → untrusted n (fill 2 n (digit 2 trust)) ≡ untrusted n trust
+unfolding untrusted
+untrusted-again n trust =
+    tally-ext n _ _ (λ q h. rw (digit-fill 2 n (digit 2 trust) (λ k. digit-lt 2 trust k (omega arith)) q h))
+
+-- the parts of an opening, as they are read at the log's start
+record Parts (log : List ℕ) (n trust : ℕ) (schedule : List ℕ) : Type 0 where
+  count : countIn log ≡ n
+  word : trustIn log n ≡ fill 2 n (digit 2 trust)
+  epochs : lengthIn log n ≡ length schedule
+  leaders : leadersAt log (15 + n) (length schedule) ≡ schedule
+  room : 15 + n + 5 * length schedule ≤ 8 * length log
+
+-- a leader of an opening that is not refused is an office
+leader-office : (n : ℕ) (schedule : List ℕ) → stray n schedule ≡ false → (i : ℕ) → i < length schedule → getD schedule i 0 < n
+unfolding stray
+leader-office n schedule h i l = leb-false n (getD schedule i 0) (any-none (λ j. leb n (getD schedule j 0)) (length schedule) i h l)
+
+-- the parts of an opening that stands at the log's start are read there
+parts-read : (log : List ℕ) (n trust : ℕ) (schedule : List ℕ) (u : List Bool) → Accepted n trust schedule
+    → Stands log 0 (openingBits n trust schedule ++ u) → Parts log n trust schedule
+unfolding openingBits countIn trustIn lengthIn left
+parts-read log n trust schedule u tests h =
+    let k : ℕ = length schedule in
+    let offices : (1 ≤ n) × (n ≤ 32) = between-true 1 32 n (tests .offices) in
+    let epochs : (1 ≤ k) × (k ≤ 256) = between-true 1 256 k (tests .epochs) in
+    let from-length : List Bool = toBits 9 k ++ (leaderBits schedule ++ u) in
+    let from-trust : List Bool = trustBits n trust ++ from-length in
+    let at-start : Stands log 0 (toBits 6 n ++ from-trust) = simp append-assoc at h in
+    let at-trust : Stands log 6 from-trust = value-behind log 0 6 n from-trust at-start in
+    let at-length : Stands log (6 + n) from-length = rw length-trust at (stands-behind log 6 (trustBits n trust) from-length at-trust) in
+    let behind : 6 + n + 9 ≡ 15 + n = omega arith in
+    let at-leaders : Stands log (15 + n) (leaderBits schedule ++ u) = rw behind at (value-behind log (6 + n) 9 k _ at-length) in
+    let rest : 8 * length log - (15 + n) ≡ 5 * k + length u = left-stands log (15 + n) _ at-leaders ∙ simp (length-append, length-leaders) in
+    record {
+      count = value-stands log 0 6 n from-trust at-start (omega arith);
+      word = trust-reads log 6 n trust from-length at-trust;
+      epochs = value-stands log (6 + n) 9 k _ at-length (omega arith);
+      leaders = leaders-read log (15 + n) schedule u (λ i l. omega (arith, leader-office n schedule (tests .leaders) i l)) at-leaders;
+      room = omega arith;
+    }
+
+-- where the parts of an opening that is not refused are read from a log that is not too long, nothing is refused
+parts-clear : (log : List ℕ) (n trust : ℕ) (schedule : List ℕ) → length log ≤ 65536
+    → Accepted n trust schedule → Parts log n trust schedule → first (openingTestsIn log n (length schedule)) ≡ 0
+unfolding thereIn left first choose
+parts-clear log n trust schedule small tests parts =
+    let k : ℕ = length schedule in
+    let there : thereIn log n k ≡ k = omega (arith, parts .room) in
+    rw (
+      le-ltb 65536 (length log) small,
+      le-ltb (left log 0) 6 (omega (arith, parts .room)),
+      tests .offices,
+      le-ltb (left log 6) (n + 9) (omega (arith, parts .room)),
+      tests .epochs,
+      there,
+      parts .leaders,
+      tests .leaders,
+      le-ltb k k (omega arith),
+      parts .word,
+      untrusted-again,
+      tests .third,
+    )
+
+-- an opening that is not refused, and stands at the start of a log that is not too long, is read there
+pub opening-reads : (log : List ℕ) (n trust : ℕ) (schedule : List ℕ) (u : List Bool) → length log ≤ 65536
+    → openingRefusal n trust schedule ≡ 0 → Stands log 0 (openingBits n trust schedule ++ u)
+    → openingIn log ≡ opened (fresh n trust schedule) 0 (length (openingBits n trust schedule))
+unfolding openingIn openedBy openingRefusalIn fresh choose
+opening-reads log n trust schedule u small h stands =
+    let tests : Accepted n trust schedule = accepted n trust schedule h in
+    let parts : Parts log n trust schedule = parts-read log n trust schedule u tests stands in
+    let again : fill 2 n (digit 2 (fill 2 n (digit 2 trust))) ≡ fill 2 n (digit 2 trust) =
+    fill-again n (digit 2 trust) (λ q. digit-lt 2 trust q (omega arith)) in
+    rw (
+      parts .count,
+      parts .epochs,
+      parts-clear log n trust schedule small tests parts,
+      parts .word,
+      parts .leaders,
+      again,
+      length-opening,
+    )
+
+-- an opening whose parts are read at the log's start stands there
+parts-stand : (log : List ℕ) (n trust : ℕ) (schedule : List ℕ) → Parts log n trust schedule
+    → Stands log 0 (openingBits n trust schedule ++ drop (15 + n + 5 * length schedule) (bits log))
+unfolding openingBits countIn trustIn lengthIn
+parts-stand log n trust schedule parts =
+    let k : ℕ = length schedule in
+    let bit : (q : ℕ) → q < n → field log (6 + q) 1 ≡ digit 2 trust q = word-digit log 6 n trust (parts .word) in
+    let room : 15 + n + 5 * k ≤ 8 * length log = parts .room in
+    let behind : 6 + n + 9 ≡ 15 + n = omega arith in
+    let at-start : Stands log 0 (toBits 6 n ++ drop 6 (bits log)) = rw (parts .count) at (stands-field log 0 6 (omega arith)) in
+    let at-trust : Stands log 6 (trustBits n trust ++ drop (6 + n) (bits log)) = trust-stands log 6 n trust (omega arith) bit in
+    let at-length : Stands log (6 + n) (toBits 9 k ++ drop (15 + n) (bits log)) =
+    rw (parts .epochs, behind) at (stands-field log (6 + n) 9 (omega arith)) in
+    let at-leaders : Stands log (15 + n) (leaderBits schedule ++ drop (15 + n + 5 * k) (bits log)) =
+    rw (parts .leaders) at (leaders-stand log (15 + n) k room) in
+    at-start ∙ rw (at-trust, at-length, at-leaders) (simp append-assoc)
+
+-- where an opening is read, nothing is refused
+opened-refusal : (a b : Register) (refusal next : ℕ)
+    → choose (eqb refusal 0) (opened a 0 next) (opened b refusal 0) .refusal ≡ 0 → refusal ≡ 0
+unfolding choose
+opened-refusal a b zero next h = refl
+opened-refusal a b (suc refusal) next h = rw eqb·suc-zero at h
+
+-- schedules of one length with one table of leaders are one schedule
+same-schedule : (s t : List ℕ) → length s ≡ length t → leaderTable s ≡ leaderTable t → s ≡ t
+unfolding leaderTable
+same-schedule s t long h = sym (take-at s _ (length t) long) ∙ ap (take (length t)) h ∙ take-at t _ (length t) refl
+
+-- where nothing is refused, the log has the bits of all parts
+parts-room : (log : List ℕ) (n k : ℕ) → first (openingTestsIn log n k) ≡ 0 → 15 + n + 5 * k ≤ 8 * length log
+unfolding Clear positive both thereIn left
+parts-room log n k h =
+    let tests : Clear (openingTestsIn log n k) = first-clear (openingTestsIn log n k) refl h in
+    omega (arith, ltb-false (left log 6) (n + 9) (tests .1 .1 .1 .0), ltb-false (thereIn log n k) k (tests .1 .1 .1 .1 .1 .1 .0))
+
+-- the parts of the opening that a register is opened by are those that were read
+register-parts : (log : List ℕ) (n trust : ℕ) (schedule : List ℕ) → openingRefusalIn log ≡ 0
+    → fresh (countIn log) (trustIn log (countIn log)) (leadersAt log (15 + countIn log) (lengthIn log (countIn log))) ≡ fresh n trust schedule
+    → Parts log n trust schedule
+unfolding openingRefusalIn fresh blank trustIn
+register-parts log n trust schedule none same =
+    let leaders : List ℕ = leadersAt log (15 + countIn log) (lengthIn log (countIn log)) in
+    let count : countIn log ≡ n = ap (λ (r : Register). r .n) same in
+    let long : length leaders ≡ length schedule = ap (λ (r : Register). r .length) same in
+    let epochs : lengthIn log n ≡ length schedule = rw (length-leadersAt, count) at long in
+    let table : leaderTable leaders ≡ leaderTable schedule = ap (λ (r : Register). r .leaders) same in
+    let word : fill 2 n (digit 2 (trustIn log n)) ≡ fill 2 n (digit 2 trust) = rw count at (ap (λ (r : Register). r .trust) same) in
+    record {
+      count = count;
+      word = sym (fill-again n (λ q. field log (6 + q) 1) (λ q. field-lt log (6 + q) 1)) ∙ word;
+      epochs = epochs;
+      leaders = rw (count, epochs) at (same-schedule leaders schedule long table);
+      room = rw (count, epochs) at (parts-room log (countIn log) (lengthIn log (countIn log)) none);
+    }
+
+-- the opening that is read at the log's start stands there, up to the position behind it
+pub opening-stands : (log : List ℕ) (n trust : ℕ) (schedule : List ℕ)
+    → openingIn log .refusal ≡ 0 → openingIn log .register ≡ fresh n trust schedule
+    → Stands log 0 (openingBits n trust schedule ++ drop (openingIn log .next) (bits log))
+    × (openingIn log .next ≡ length (openingBits n trust schedule))
+unfolding openingIn openedBy choose
+opening-stands log n trust schedule accepts register =
+    let none : openingRefusalIn log ≡ 0 = opened-refusal _ _ (openingRefusalIn log) _ accepts in
+    let parts : Parts log n trust schedule = register-parts log n trust schedule none (rw none at register) in
+    let next : openingIn log .next ≡ 15 + n + 5 * length schedule = rw (none, parts .count, parts .epochs) in
+    (rw next (parts-stand log n trust schedule parts), next ∙ sym (length-opening n trust schedule))

@@ -1,0 +1,49 @@
+-- Rows that stand at a position of a log: the fields that are read from them, and back.
+use Prim.Native.Nat.{ℕ, _+_, _*_, _^_, _≤_, _<_}
+use mathlib.Core.Path.{_≡_, refl, ap}
+use mathlib.Core.Bool.{Bool}
+use mathlib.Core.List.{List, _++_}
+use native.Mathlib.Omega.{arith}
+use lib.ListN.{length, take, drop, length-take, length-drop, take-append-drop}
+use lib.Seq.{take-at, drop-at, drop-drop}
+use Rattle.packed_log.specs.Bits.{toBits, num, bits, field}
+use Rattle.packed_log.specs.Items.{left}
+use Rattle.packed_log.proofs.BitRows.{length-toBits, num-toBits, toBits-num}
+use Rattle.packed_log.proofs.BitsLaws.{length-bits}
+
+-- from position p on, the log's row is r
+abbrev pub Stands : (log : List ℕ) → (p : ℕ) → List Bool → Type 0
+Stands log p r = drop p (bits log) ≡ r
+
+-- where a row stands up to the log's end, its bits are those that are left
+pub left-stands : (log : List ℕ) (p : ℕ) (r : List Bool) → Stands log p r → left log p ≡ length r
+unfolding left
+left-stands log p r h = simp (length-drop, length-bits) at (ap length h)
+
+module _ (log : List ℕ) (p : ℕ) (t u : List Bool) (stands : Stands log p (t ++ u)) where
+  -- the number of a row is read where the row stands
+  field-stands : field log p (length t) ≡ num t
+  unfolding field
+  field-stands = rw (stands, take-at t u (length t) refl)
+
+  -- what stands behind a row
+  pub stands-behind : Stands log (p + length t) u
+  stands-behind = rw (← drop-drop (length t) p (bits log), stands, drop-at t u (length t) refl)
+
+module _ (log : List ℕ) (p w v : ℕ) (u : List Bool) (stands : Stands log p (toBits w v ++ u)) where
+  -- a number with room in w bits is read where these stand
+  pub value-stands : v < 2 ^ w → field log p w ≡ v
+  value-stands room = rw (length-toBits, num-toBits w v room) at (field-stands log p (toBits w v) u stands)
+
+  -- what stands behind the bits of a number
+  pub value-behind : Stands log (p + w) u
+  value-behind = rw length-toBits at (stands-behind log p (toBits w v) u stands)
+
+-- where the log has w bits from position p on, those of the field stand there
+pub stands-field : (log : List ℕ) (p w : ℕ) → p + w ≤ 8 * length log → Stands log p (toBits w (field log p w) ++ drop (p + w) (bits log))
+unfolding field
+stands-field log p w room =
+    let part : List Bool = take w (drop p (bits log)) in
+    let long : length part ≡ w = simp (length-take, length-drop, length-bits) (omega arith) in
+    let same : toBits w (num part) ≡ part = rw long at (toBits-num part) in
+    rw (same, ← drop-drop w p (bits log), take-append-drop w (drop p (bits log)))

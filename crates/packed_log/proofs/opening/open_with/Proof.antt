@@ -1,0 +1,104 @@
+-- `packed_log::opening::open_with`: opens with the leaders that are there, and tells from that what all of them bring.
+use borrow.Author.Needs.{needs}
+use Prim.Native.Nat.{_+_, _≤_}
+use mathlib.Core.Path.{_≡_, sym, _∙_}
+use native.Mathlib.Omega.{arith}
+use lib.ListN.{length}
+use lib.Seq.{length-take-le}
+use Rattle.register.specs.Opening.{opening}
+use Rattle.packed_log.specs.Items.{left}
+use Rattle.packed_log.specs.Openings.{trustIn, leadersAt}
+use Rattle.packed_log.proofs.OpeningTests.{same-opening, leaders-refused, leaders-opened}
+use Rattle.packed_log.proofs.opening.open_with.Statement.{statement}
+use Rattle.packed_log.proofs.opening.open_with.Tie as tie
+
+add-from : tie.Need-add-from
+add-from c = search needs
+
+add-from-2 : tie.Need-add-from-2
+add-from-2 c = search needs
+
+there-of-requires : tie.Need-there-of-requires
+there-of-requires c κs = search needs
+
+read-leaders-requires : tie.Need-read-leaders-requires
+unfolding left
+read-leaders-requires c κs = (omega arith, omega arith, omega arith)
+
+read-trust-requires : tie.Need-read-trust-requires
+read-trust-requires c κs = search needs
+
+-- the leaders that are there have room in the table
+within : (c : tie.After-read-leaders) → c .before .there-of .result ≤ length (c .read-leaders .result)
+within c = omega (arith, c .read-leaders .ensures .0)
+
+array-share-prefix-leaders : tie.Need-array-share-prefix-leaders
+array-share-prefix-leaders c = within (c .before)
+
+slice-aggregate-open : tie.Need-slice-aggregate-open
+slice-aggregate-open c = sym (length-take-le _ _ (within (c .before .before)))
+
+open-requires : tie.Need-open-requires
+open-requires c κs = search needs
+
+leader-refusal-requires : tie.Need-leader-refusal-requires
+leader-refusal-requires c κs = search needs
+
+refused-requires : tie.Need-refused-requires
+refused-requires c κs = search needs
+
+-- the start, seen from where the leaders that are there have been opened
+abbrev start : tie.After-open → tie.Start
+start c = c .before .before .before .before .before .before
+
+-- what opening them gives
+opens : (c : tie.After-open)
+    → c .«open» .result ≡ opening (start c .args .n) (trustIn (start c .args .log .now) (start c .args .n))
+    (leadersAt (start c .args .log .now) (15 + start c .args .n) (c .before .before .before .before .there-of .result))
+opens c =
+    let at-trust = c .before .before in
+    c .«open» .ensures ∙ same-opening (start c .args .n) _ _ _ _ (at-trust .read-trust .ensures) (at-trust .before .read-leaders .ensures .1)
+
+returns : tie.Need-returns
+returns c =
+    let at-open = c .before .before .before in
+    let begun = start at-open in
+    let a = begun .args in
+    let whole = at-open .before .before .before .before .there-of .ensures .0 in
+    c .refused .ensures
+    ∙ leaders-refused (a .log .now) (a .n) (a .k) (begun .pre .0) (begun .pre .1) (begun .pre .2) (begun .pre .3) _ whole _ (opens at-open) _
+    (c .before .before .leader-refusal .ensures) (c .before .if1 .taken)
+
+mul-t10 : tie.Need-mul-t10
+mul-t10 c = search needs
+
+add-t11 : tie.Need-add-t11
+add-t11 c = search needs
+
+returns-2 : tie.Need-returns-2
+returns-2 c =
+    let at-open = c .before .before .before in
+    let begun = start at-open in
+    let a = begun .args in
+    let whole = at-open .before .before .before .before .there-of .ensures .0 in
+    leaders-opened (a .log .now) (a .n) (a .k) (begun .pre .0) (begun .pre .1) (begun .pre .2) (begun .pre .3) _ whole _ (opens at-open) _
+    (c .before .before .leader-refusal .ensures) (c .before .if1 .left)
+
+pub open-with-spec : {M : Type 1} → statement M
+open-with-spec =
+    tie.close
+    (tie.spec
+    add-from
+    add-from-2
+    there-of-requires
+    read-leaders-requires
+    read-trust-requires
+    array-share-prefix-leaders
+    slice-aggregate-open
+    open-requires
+    leader-refusal-requires
+    refused-requires
+    returns
+    mul-t10
+    add-t11
+    returns-2)
