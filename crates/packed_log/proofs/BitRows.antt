@@ -3,7 +3,7 @@ use Prim.Native.Nat.{ℕ, zero, suc, _+_, _*_, _-_, _/_, _%_, _^_, _≤_, _<_}
 use mathlib.Core.Path.{_≡_, refl, sym, ap, _∙_}
 use mathlib.Core.Bool.{Bool, true, false}
 use mathlib.Core.List.{List, [], _∷_, _++_, append-assoc}
-use native.Mathlib.Nat.{add-assoc, add-comm, add-mul, add-suc, add-zero, mod-eq-of-lt, mod-one, mul-assoc, one-mul, pow-succ', suc-add, two-pow-succ, zero-add, zero-div, zero-mul}
+use native.Mathlib.Nat.{add-assoc, add-comm, add-mul, add-suc, add-zero, mod-eq-of-lt, mod-one, mul-assoc, one-mul, pow-succ', suc-add, two-pow-succ, zero-add, zero-div, zero-mul, div-one}
 use native.Mathlib.Omega.{arith}
 use lib.Dec.{eqb}
 use lib.ListN.{length, take, drop, set, replicate, length-append, length-take, length-drop, length-set, take-append-drop}
@@ -24,6 +24,11 @@ pub zero-bits : (w : ℕ) → toBits w 0 ≡ replicate w false
 unfolding toBits
 zero-bits zero = refl
 zero-bits (suc w) = rw (zero-div, zero-bits w)
+
+-- a digit of base 2 as a row of one bit
+pub bit-row : (d : ℕ) → d < 2 → toBits 1 d ≡ eqb d 1 ∷ []
+unfolding toBits
+bit-row d h = rw (div-one, mod-eq-of-lt h)
 
 -- a bit as a number is 0 or 1
 bit-number : (d : ℕ) → d < 2 → choose (eqb d 1) 1 0 ≡ d

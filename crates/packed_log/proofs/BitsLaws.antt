@@ -94,6 +94,11 @@ pub bits-put : (l : List ℕ) (p : ℕ) (t : List Bool) → bits (put l p t) ≡
 unfolding put
 bits-put l p t = bits-bytes (length l) (sets (bits l) p t) (length-sets (bits l) p t ∙ length-bits l)
 
+-- where nothing is laid, the buffer stays
+pub put-none : (l : List ℕ) (p : ℕ) → Bytes l → put l p [] ≡ l
+unfolding put
+put-none l p h = bytes-bits l h
+
 -- laying one row and then the next right behind it is laying both, joined
 pub put-put : (l : List ℕ) (p : ℕ) (t u : List Bool) → put (put l p t) (p + length t) u ≡ put l p (t ++ u)
 put-put l p t u =

@@ -7,6 +7,7 @@ pub mod RowLaws
 pub mod OpeningFields
 pub mod OpeningTests
 pub mod WritingLaws
+pub mod OpeningWrites
 pub mod Unrefused
 pub mod Standing
 pub mod ItemsReadBack
@@ -16,3 +17,5 @@ pub mod LogsReadBack
 pub mod WriterCalls
 pub mod OnePackedForm
 pub mod Cases
+-- What the walks of a reader's methods share.
+pub mod ReaderLaws

@@ -1,5 +1,5 @@
 -- Laws of the tests that the reading of an opening makes.
-use Prim.Native.Nat.{ℕ, zero, suc, _+_, _*_, _/_, _≤_, min}
+use Prim.Native.Nat.{ℕ, _+_, _*_, _/_, _≤_, min}
 use mathlib.Core.Path.{_≡_, refl, sym, ap, _∙_}
 use mathlib.Core.Bool.{Bool, true, false, not}
 use mathlib.Core.List.{List, [], _∷_, _++_}

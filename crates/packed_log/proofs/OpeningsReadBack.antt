@@ -1,12 +1,12 @@
 -- Openings: one that stands at a log's start is read there, and what is read there stands there.
 use Prim.Native.Nat.{ℕ, zero, suc, _+_, _*_, _-_, _≤_, _<_}
 use mathlib.Core.Path.{_≡_, refl, sym, ap, _∙_}
-use mathlib.Core.Bool.{Bool, false}
+use mathlib.Core.Bool.{Bool}
 use mathlib.Core.List.{List, [], _∷_, _++_, append-assoc}
-use native.Mathlib.Nat.{add-zero, div-one, mod-eq-of-lt}
+use native.Mathlib.Nat.{add-zero}
 use native.Mathlib.Omega.{arith}
-use borrow.Author.Tests.{ltb-false, leb-false, le-ltb}
-use lib.Dec.{eqb, leb, eqb·suc-zero}
+use borrow.Author.Tests.{ltb-false, le-ltb}
+use lib.Dec.{eqb, eqb·suc-zero}
 use lib.ListN.{length, getD, take, drop, length-append}
 use lib.Seq.{take-at}
 use Rattle.words.specs.Tests.{choose, both}
@@ -15,23 +15,18 @@ use Rattle.words.proofs.Digits.{digit-lt, digit-fill, fill-ext}
 use Rattle.words.specs.Refusals.{first}
 use Rattle.words.proofs.Refusals.{positive, Clear, first-clear}
 use Rattle.words.proofs.Sums.{tally-ext}
-use Rattle.words.proofs.Tests.{any-none, between-true}
 use Rattle.register.specs.declared.table.Register.{Register}
-use Rattle.register.specs.Opening.{untrusted, stray, openingRefusal, leaderTable, blank, fresh}
+use Rattle.register.specs.Opening.{untrusted, openingRefusal, leaderTable, blank, fresh}
 use Rattle.packed_log.specs.Bits.{toBits, bits, field}
 use Rattle.packed_log.specs.Items.{left}
 use Rattle.packed_log.specs.Openings.{countIn, trustIn, lengthIn, leadersAt, thereIn, openingTestsIn, openingRefusalIn, opened, openedBy, openingIn}
 use Rattle.packed_log.specs.Writing.{trustBits, leaderBits, openingBits}
+use Rattle.packed_log.proofs.BitRows.{bit-row}
 use Rattle.packed_log.proofs.BitsLaws.{field-lt}
 use Rattle.packed_log.proofs.WritingLaws.{length-trust, length-leaders, length-opening}
 use Rattle.packed_log.proofs.Unrefused.{Accepted, accepted}
 use Rattle.packed_log.proofs.OpeningFields.{length-leadersAt}
 use Rattle.packed_log.proofs.Standing.{Stands, left-stands, stands-behind, value-stands, value-behind, stands-field}
-
--- a digit of base 2 as a row of one bit
-bit-row : (d : ℕ) → d < 2 → toBits 1 d ≡ eqb d 1 ∷ []
-unfolding toBits
-bit-row d h = rw (div-one, mod-eq-of-lt h)
 
 -- trust bits that stand at a position are read there
 trust-reads : (log : List ℕ) (p n trust : ℕ) (u : List Bool) → Stands log p (trustBits n trust ++ u)
@@ -106,19 +101,14 @@ record Parts (log : List ℕ) (n trust : ℕ) (schedule : List ℕ) : Type 0 whe
   leaders : leadersAt log (15 + n) (length schedule) ≡ schedule
   room : 15 + n + 5 * length schedule ≤ 8 * length log
 
--- a leader of an opening that is not refused is an office
-leader-office : (n : ℕ) (schedule : List ℕ) → stray n schedule ≡ false → (i : ℕ) → i < length schedule → getD schedule i 0 < n
-unfolding stray
-leader-office n schedule h i l = leb-false n (getD schedule i 0) (any-none (λ j. leb n (getD schedule j 0)) (length schedule) i h l)
-
 -- the parts of an opening that stands at the log's start are read there
 parts-read : (log : List ℕ) (n trust : ℕ) (schedule : List ℕ) (u : List Bool) → Accepted n trust schedule
     → Stands log 0 (openingBits n trust schedule ++ u) → Parts log n trust schedule
 unfolding openingBits countIn trustIn lengthIn left
 parts-read log n trust schedule u tests h =
     let k : ℕ = length schedule in
-    let offices : (1 ≤ n) × (n ≤ 32) = between-true 1 32 n (tests .offices) in
-    let epochs : (1 ≤ k) × (k ≤ 256) = between-true 1 256 k (tests .epochs) in
+    let offices : (1 ≤ n) × (n ≤ 32) = tests .count in
+    let epochs : (1 ≤ k) × (k ≤ 256) = tests .turns in
     let from-length : List Bool = toBits 9 k ++ (leaderBits schedule ++ u) in
     let from-trust : List Bool = trustBits n trust ++ from-length in
     let at-start : Stands log 0 (toBits 6 n ++ from-trust) = simp append-assoc at h in
@@ -131,7 +121,7 @@ parts-read log n trust schedule u tests h =
       count = value-stands log 0 6 n from-trust at-start (omega arith);
       word = trust-reads log 6 n trust from-length at-trust;
       epochs = value-stands log (6 + n) 9 k _ at-length (omega arith);
-      leaders = leaders-read log (15 + n) schedule u (λ i l. omega (arith, leader-office n schedule (tests .leaders) i l)) at-leaders;
+      leaders = leaders-read log (15 + n) schedule u (λ i l. omega (arith, tests .leader i l)) at-leaders;
       room = omega arith;
     }
 

@@ -9,7 +9,6 @@ use borrow.Author.Tests.{le-ltb}
 use lib.ListN.{length, take, drop, length-append, length-take, take-append-drop, drop-of-length-le}
 use lib.Seq.{sets-eq}
 use Rattle.words.specs.Tests.{choose}
-use Rattle.words.specs.Refusals.{first}
 use Rattle.words.proofs.Tests.{either-false-left, either-false-right}
 use Rattle.register.specs.declared.step.Step.{Step}
 use Rattle.register.specs.Opening.{openingRefusal}
@@ -17,9 +16,10 @@ use Rattle.packed_log.specs.Bits.{Bytes, bits, bytes, put}
 use Rattle.packed_log.specs.Rows.{rowOf}
 use Rattle.packed_log.specs.Writing.{stepBits, endBits, wide, short, openingRefused, stepRefused, endRefused, wrote, laid}
 use Rattle.packed_log.specs.Logs.{Case, stepsBits, bodyBits, packed, anyWide, Packable, Written, after, afterSteps, afterOpening, afterEnd, afterAll}
-use Rattle.packed_log.proofs.BitsLaws.{length-bits, bytes-bits, length-put, put-put, put-left}
+use Rattle.packed_log.proofs.BitsLaws.{length-bits, length-put, put-put, put-left, put-none}
 use Rattle.packed_log.proofs.Windows.{bytes-drop}
-use Rattle.packed_log.proofs.Unrefused.{Accepted, accepted}
+use Rattle.packed_log.proofs.WritingLaws.{step-fits, end-fits}
+use Rattle.packed_log.proofs.OpeningWrites.{opening-fits}
 use Rattle.packed_log.proofs.LogsReadBack.{caseBits, packed-row, firstBits}
 
 -- the buffer with the row t laid over it from its start on, and the position behind t
@@ -29,11 +29,6 @@ filled buffer t = record { buffer = put buffer 0 t; at = length t }
 -- the writer has room in the buffer for the row t
 abbrev Room : (buffer : List ℕ) → (t : List Bool) → Type 0
 Room buffer t = length t ≤ 8 * min (length buffer) 65536
-
--- where nothing is laid, the buffer stays
-put-none : (buffer : List ℕ) → Bytes buffer → put buffer 0 [] ≡ buffer
-unfolding put
-put-none buffer h = bytes-bits buffer h
 
 module _ (buffer : List ℕ) (t u : List Bool) where
   -- a call that is not refused lays its row behind those before it
@@ -57,18 +52,17 @@ module _ (buffer : List ℕ) (t u : List Bool) where
 -- the call for an opening that is not refused lays it
 opening-call : (buffer : List ℕ) (c : Case) → Bytes buffer → openingRefusal (c .n) (c .trust) (c .schedule) ≡ 0
     → Room buffer (firstBits c) → afterOpening buffer c ≡ filled buffer (firstBits c)
-unfolding afterOpening openingRefused first choose
+unfolding afterOpening
 opening-call buffer c h opens room =
-    let tests : Accepted (c .n) (c .trust) (c .schedule) = accepted (c .n) (c .trust) (c .schedule) opens in
-    let enough : short buffer 0 (firstBits c) ≡ false = rw (put-none buffer h) at (long-enough buffer [] (firstBits c) room) in
+    let enough : short buffer 0 (firstBits c) ≡ false = rw (put-none buffer 0 h) at (long-enough buffer [] (firstBits c) room) in
     let refusal : ℕ = openingRefused buffer 0 (c .n) (c .trust) (c .schedule) in
-    let none : refusal ≡ 0 = rw (tests .offices, tests .epochs, tests .leaders, tests .third, enough) in
-    rw (put-none buffer h) at (call buffer [] (firstBits c) refusal none)
+    let none : refusal ≡ 0 = opening-fits buffer 0 (c .n) (c .trust) (c .schedule) opens enough in
+    rw (put-none buffer 0 h) at (call buffer [] (firstBits c) refusal none)
 
 -- the calls for steps within the widths lay them
 steps-calls : (buffer : List ℕ) (t : List Bool) (ss : List Step) → anyWide ss ≡ false → Room buffer (t ++ stepsBits ss)
     → afterSteps (filled buffer t) ss ≡ filled buffer (t ++ stepsBits ss)
-unfolding afterSteps stepsBits anyWide stepRefused first choose
+unfolding afterSteps stepsBits anyWide
 steps-calls buffer t [] narrow room = rw append-nil
 steps-calls buffer t (s ∷ ss) narrow room =
     let joined : t ++ (stepBits s ++ stepsBits ss) ≡ t ++ stepBits s ++ stepsBits ss = sym (append-assoc t (stepBits s) (stepsBits ss)) in
@@ -76,16 +70,16 @@ steps-calls buffer t (s ∷ ss) narrow room =
     let one : Room buffer (t ++ stepBits s) = room-front buffer (t ++ stepBits s) (stepsBits ss) all in
     let narrow-one : wide (rowOf s) ≡ false = either-false-left (wide (rowOf s)) (anyWide ss) narrow in
     let narrow-rest : anyWide ss ≡ false = either-false-right (wide (rowOf s)) (anyWide ss) narrow in
-    let none : stepRefused (put buffer 0 t) (length t) s ≡ 0 = rw (narrow-one, long-enough buffer t (stepBits s) one) in
+    let none : stepRefused (put buffer 0 t) (length t) s ≡ 0 = step-fits (put buffer 0 t) (length t) s narrow-one (long-enough buffer t (stepBits s) one) in
     rw (call buffer t (stepBits s) (stepRefused (put buffer 0 t) (length t) s) none, joined)
     (steps-calls buffer (t ++ stepBits s) ss narrow-rest all)
 
 -- the call for the end lays it
 end-call : (buffer : List ℕ) (t : List Bool) → Room buffer (t ++ endBits (length t))
     → afterEnd (filled buffer t) ≡ filled buffer (t ++ endBits (length t))
-unfolding afterEnd endRefused first choose
+unfolding afterEnd
 end-call buffer t room =
-    let none : endRefused (put buffer 0 t) (length t) ≡ 0 = rw (long-enough buffer t (endBits (length t)) room) in
+    let none : endRefused (put buffer 0 t) (length t) ≡ 0 = end-fits (put buffer 0 t) (length t) (long-enough buffer t (endBits (length t)) room) in
     call buffer t (endBits (length t)) (endRefused (put buffer 0 t) (length t)) none
 
 -- a row that covers a whole buffer, laid over it, leaves just its own bytes

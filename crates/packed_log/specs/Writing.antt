@@ -6,7 +6,7 @@ use lib.Dec.{eqb, ltb, leb}
 use lib.ListN.{length, replicate}
 use Rattle.words.specs.Tests.{choose, either}
 use Rattle.words.specs.Digits.{digit}
-use Rattle.words.specs.Refusals.{Refusal, _⇒_, first}
+use Rattle.words.specs.Refusals.{_⇒_, first}
 use Rattle.register.specs.declared.step.Step.{Step}
 use Rattle.register.specs.Opening.{openingTests}
 use Rattle.packed_log.specs.declared.row.Row.{Row}

@@ -25,7 +25,7 @@ pub struct Wrote {
 }
 
 // How many bits the buffer has left from position `at` on, where it counts as at most 65,536 bytes long.
-fn room_of(buf: &[u8], at: usize) -> usize
+pub(crate) fn room_of(buf: &[u8], at: usize) -> usize
     ensures { λ r. ⌜ (r ≡ 8 * min (length (now (buf .entry))) 65536 - at) × (r ≤ 524288) ⌝ }
 {
     let total = 8 * shorter(buf.len(), LONGEST);

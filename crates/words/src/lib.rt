@@ -8,7 +8,7 @@ ghost use Rattle.words.specs.Digits.{digit, raise, fill};
 ghost use Rattle.words.specs.Sums.{tally};
 
 // The digit of office q in a set: 1 where it is in, else 0.
-fn bit(set: u32, q: u8) -> u32
+pub fn bit(set: u32, q: u8) -> u32
     ensures { λ r. ⌜ r ≡ digit 2 set q ⌝ }
 {
     if q >= 32 {

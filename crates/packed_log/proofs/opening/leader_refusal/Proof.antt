@@ -1,5 +1,4 @@
 -- `packed_log::opening::leader_refusal`: 3, then 27, then what is left.
-use borrow.Author.Needs.{needs}
 use borrow.Author.Tests.{lt-ltb, le-ltb, ne-eqb}
 use Rattle.words.specs.Tests.{choose}
 use Rattle.packed_log.proofs.opening.leader_refusal.Statement.{statement}

@@ -1,0 +1,93 @@
+-- `packed_log::write_opening::write_leaders`: at each turn the first i leaders are laid.
+use borrow.Author.Needs.{needs}
+use Prim.Native.Nat.{_-_, _≤_, _<_}
+use mathlib.Core.Path.{_≡_, sym, ap, _∙_}
+use native.Mathlib.Omega.{arith}
+use lib.ListN.{length, getD, take}
+use lib.Seq.{take-length}
+use Rattle.packed_log.specs.Bits.{Bytes, put}
+use Rattle.packed_log.specs.Writing.{leaderBits}
+use Rattle.packed_log.proofs.BitsLaws.{put-none, length-put}
+use Rattle.packed_log.proofs.OpeningWrites.{next-leader-bits}
+use Rattle.packed_log.proofs.write_opening.write_leaders.Statement.{statement}
+use Rattle.packed_log.proofs.write_opening.write_leaders.Tie as tie
+
+abbrev Inv-loop : tie.InvT-loop
+Inv-loop buf₀ at schedule i₀ buf i = (i ≤ length schedule) × (buf ≡ put buf₀ at (leaderBits (take i schedule)))
+
+abbrev μ-loop : tie.MeasureT-loop
+μ-loop buf₀ at schedule i₀ buf i = length schedule - i
+
+loop-holds : tie.Need-loop-holds Inv-loop μ-loop
+unfolding leaderBits
+loop-holds c =
+    let a = c .before .before .args in
+    let bytes : Bytes (a .buf .now) = λ i. omega (arith, c .before .slice-known .given i) in
+    (search needs, sym (put-none (a .buf .now) (a .at) bytes))
+
+mul-write-bits : tie.Need-mul-write-bits Inv-loop μ-loop
+mul-write-bits c = search needs
+
+add-write-bits : tie.Need-add-write-bits Inv-loop μ-loop
+add-write-bits c = search needs
+
+shared-slice-read-write-bits : tie.Need-shared-slice-read-write-bits Inv-loop μ-loop
+shared-slice-read-write-bits c = search needs
+
+-- a leader has room in five bits
+small : (c : tie.After-shared-slice-known2 Inv-loop μ-loop)
+    → getD (c .before .before .before .before .before .before .args .schedule .now) (c .before .before .before .loop .i) 0 < 32
+small c = c .before .before .before .before .before .before .pre .0 _ (omega arith)
+
+cast-write-bits : tie.Need-cast-write-bits Inv-loop μ-loop
+cast-write-bits c = omega (arith, small c)
+
+-- the buffer keeps its length
+long : (c : tie.At-loop Inv-loop μ-loop) → length (c .loop .buf) ≡ length (c .before .before .before .args .buf .now)
+long c = ap length (c .loop .inv .1) ∙ length-put _ _ _
+
+write-bits-requires : tie.Need-write-bits-requires Inv-loop μ-loop
+write-bits-requires c κs = (omega arith, omega (arith, long (c .before .before .before)), small c)
+
+add-i : tie.Need-add-i Inv-loop μ-loop
+add-i c = search needs
+
+loop-less : tie.Need-loop-less Inv-loop μ-loop
+loop-less c = search needs
+
+loop-again : tie.Need-loop-again Inv-loop μ-loop
+loop-again c =
+    let at-write-bits = c .before .before in
+    let at-loop = at-write-bits .before .before .before .before in
+    let a = at-loop .before .before .before .args in (
+      search needs,
+      at-write-bits .write-bits .ensures
+          ∙ next-leader-bits (a .buf .now) (at-loop .loop .buf) (a .at) (at-loop .loop .i) (a .schedule .now) (omega arith) (at-loop .loop .inv .1),
+    )
+
+same-length : tie.Need-same-length Inv-loop μ-loop
+same-length c = long (c .before)
+
+returns : tie.Need-returns Inv-loop μ-loop
+returns c =
+    let schedule = c .before .before .before .before .args .schedule .now in
+    let end : c .before .loop .i ≡ length schedule = omega arith in
+    c .before .loop .inv .1 ∙ rw (end, take-length schedule)
+
+pub write-leaders-spec : {M : Type 1} → statement M
+write-leaders-spec =
+    tie.close
+    (tie.spec
+    Inv-loop
+    μ-loop
+    loop-holds
+    mul-write-bits
+    add-write-bits
+    shared-slice-read-write-bits
+    cast-write-bits
+    write-bits-requires
+    add-i
+    loop-less
+    loop-again
+    same-length
+    returns)
