@@ -16,6 +16,6 @@ pub mod OpeningsReadBack
 pub mod LogsReadBack
 pub mod WriterCalls
 pub mod OnePackedForm
-pub mod Cases
+pub mod MarkedCases
 -- What the walks of a reader's methods share.
 pub mod ReaderLaws

@@ -8,3 +8,4 @@ pub mod Openings
 pub mod Writing
 pub mod Logs
 pub mod Claims
+pub mod MarkedCases
