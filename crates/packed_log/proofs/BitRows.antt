@@ -7,7 +7,7 @@ use native.Mathlib.Nat.{add-assoc, add-comm, add-mul, add-suc, add-zero, mod-eq-
 use native.Mathlib.Omega.{arith}
 use lib.Dec.{eqb}
 use lib.ListN.{length, take, drop, set, replicate, length-append, length-take, length-drop, length-set, take-append-drop}
-use lib.Pow.{pow-add, mod-pow-add, high, low}
+use lib.Pow.{pow-add, mod-pow-add, high, low, shr-shr}
 use lib.Seq.{sets, sets-eq, set-append-left, drop-append-le, take-append-le}
 use Rattle.words.specs.Tests.{choose}
 use Rattle.packed_log.specs.Bits.{toBits, num}
@@ -95,6 +95,15 @@ toBits-below x (b ∷ r) =
 -- the bits of a row's number are the row
 pub toBits-num : (r : List Bool) → toBits (length r) (num r) ≡ r
 toBits-num r = rw (zero-mul, zero-add) at (toBits-below 0 r)
+
+-- two numbers, one behind the other, as one number of their joined bits
+pub join-bits : (a b x y : ℕ) → y < 2 ^ b → toBits (a + b) (x * 2 ^ b + y) ≡ toBits a x ++ toBits b y
+unfolding toBits
+join-bits zero b x y h = rw zero-add (rw (length-toBits, num-toBits b y h) at (toBits-below x (toBits b y)))
+join-bits (suc a) b x y h =
+    let v : ℕ = x * 2 ^ b + y in
+    let above : v / 2 ^ (a + b) ≡ x / 2 ^ a = rw (add-comm a b, ← shr-shr v b a, high x b h) in
+    rw (suc-add, above, join-bits a b x y h)
 
 -- a part of a row, as a part of its number
 pub num-middle : (a m z : List Bool) → num (a ++ (m ++ z)) / 2 ^ length z % 2 ^ length m ≡ num m

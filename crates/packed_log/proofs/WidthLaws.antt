@@ -45,3 +45,11 @@ table-width kind column hk hc =
     let same : eqb (getD table k 0) (width (k / 4) (k % 4)) ≡ true = both-left _ (leb (getD table k 0) 16) test in
     let small : leb (getD table k 0) 16 ≡ true = both-right (eqb (getD table k 0) (width (k / 4) (k % 4))) _ test in
     (rw (row, place) at (eqb-true (getD table k 0) (width (k / 4) (k % 4)) same), leb-true (getD table k 0) 16 small)
+
+-- the first field of each kind has at most ten bits
+all-narrow : all 9 (λ kind. leb (width kind 0) 10) ≡ true
+unfolding all both width fields
+all-narrow = refl
+
+pub first-width : (kind : ℕ) → kind < 9 → width kind 0 ≤ 10
+first-width kind h = leb-true (width kind 0) 10 (all-at (λ k. leb (width k 0) 10) 9 kind all-narrow h)

@@ -1,48 +1,87 @@
 -- Laws of what the writer lays over a buffer.
-use Prim.Native.Nat.{ℕ, zero, suc, _+_, _*_, _-_, _%_, _≤_, _<_, min}
+use Prim.Native.Nat.{ℕ, zero, suc, _+_, _*_, _-_, _%_, _^_, _≤_, _<_, min}
 use mathlib.Core.Path.{_≡_, refl, sym}
 use mathlib.Core.Bool.{Bool, true, false, _||_}
 use mathlib.Core.List.{List, [], _∷_, _++_}
-use native.Mathlib.Nat.{zero-add, suc-add, min-le-left, min-le-right}
+use native.Mathlib.Nat.{zero-add, suc-add, mul-le-mul-right, mod-eq-of-lt, min-le-left, min-le-right}
 use native.Mathlib.Numerals.{add-one}
 use native.Mathlib.Omega.{arith}
 use borrow.Author.Tests.{lt-ltb, le-ltb, ne-eqb}
 use lib.ListN.{length, replicate, length-append, length-replicate}
+use lib.Pow.{pow-add, pow-mono}
 use Rattle.register.specs.declared.step.Step.{Step}
 use Rattle.words.specs.Tests.{choose, either}
 use Rattle.words.specs.Refusals.{first}
 use Rattle.packed_log.specs.declared.row.Row.{Row}
 use Rattle.packed_log.specs.declared.writing.Wrote.{Wrote}
 use Rattle.packed_log.specs.Bits.{toBits, put}
-use Rattle.packed_log.specs.Rows.{rowOf}
+use Rattle.packed_log.specs.Rows.{rowOf, Within}
 use Rattle.packed_log.specs.Widths.{width, due}
 use Rattle.packed_log.specs.Writing.{trustBits, leaderBits, openingBits, rowBits, stepBits, endBits, wide, short, stepRefused, endRefused, wrote, laid}
-use Rattle.packed_log.proofs.BitRows.{length-toBits, zero-bits}
+use Rattle.packed_log.proofs.BitRows.{length-toBits, zero-bits, join-bits}
 use Rattle.packed_log.proofs.BitsLaws.{put-put}
+use Rattle.packed_log.proofs.WidthLaws.{first-width}
 use Rattle.packed_log.proofs.RowLaws.{step-kind}
 
 -- what is laid where the row before it ends
 pub put-next : (l : List ℕ) (p : ℕ) (t u : List Bool) (q : ℕ) → q ≡ p + length t → put (put l p t) q u ≡ put l p (t ++ u)
 put-next l p t u q e = rw e (put-put l p t u)
 
--- a kind and its fields, laid one behind the other, are the row
-pub put-row : (l : List ℕ) (p : ℕ) (r : Row) (w0 w1 w2 w3 : ℕ) → w0 ≡ width (r .kind) 0 → w1 ≡ width (r .kind) 1 → w2 ≡ width (r .kind) 2 → w3 ≡ width (r .kind) 3 → put (put (put (put (put l p (toBits 4 (r .kind))) (p + 4) (toBits w0 (r .first))) (p + 4 + w0) (toBits w1 (r .second))) (p + 4 + w0 + w1) (toBits w2 (r .third))) (p + 4 + w0 + w1 + w2) (toBits w3 (r .fourth)) ≡ put l p (rowBits r)
-unfolding rowBits
-put-row l p r w0 w1 w2 w3 e0 e1 e2 e3 =
-    let t0 : List Bool = toBits 4 (r .kind) in
-    let t1 : List Bool = t0 ++ toBits w0 (r .first) in
-    let t2 : List Bool = t1 ++ toBits w1 (r .second) in
-    let t3 : List Bool = t2 ++ toBits w2 (r .third) in
-    rw (
-      put-next l p t0 (toBits w0 (r .first)) (p + 4) (simp length-toBits),
-      put-next l p t1 (toBits w1 (r .second)) (p + 4 + w0) (simp (length-append, length-toBits) (omega arith)),
-      put-next l p t2 (toBits w2 (r .third)) (p + 4 + w0 + w1) (simp (length-append, length-toBits) (omega arith)),
-      put-next l p t3 (toBits w3 (r .fourth)) (p + 4 + w0 + w1 + w2) (simp (length-append, length-toBits) (omega arith)),
-      ← e0,
-      ← e1,
-      ← e2,
-      ← e3,
-    )
+-- the widths of a row have been looked up: each number has room in its own, and the row in what is left from position p on
+pub record Fits (r : Row) (p long w0 w1 w2 w3 : ℕ) : Type 0 where
+  pub first : r .first < 2 ^ w0
+  pub second : r .second < 2 ^ w1
+  pub third : r .third < 2 ^ w2
+  pub fourth : r .fourth < 2 ^ w3
+  pub narrow : w0 ≤ 10
+  pub room : p + 4 + w0 + w1 + w2 + w3 ≤ 8 * long
+
+module _ (r : Row) (p w0 w1 w2 w3 : ℕ)
+    (e0 : w0 ≡ width (r .kind) 0) (e1 : w1 ≡ width (r .kind) 1) (e2 : w2 ≡ width (r .kind) 2) (e3 : w3 ≡ width (r .kind) 3)
+  where
+    -- it is so where the row is within the widths and the buffer has the bits that are due
+    pub row-fits : (long : ℕ) → r .kind < 9 → Within r → p + 4 + due (r .kind) ≤ 8 * long → Fits r p long w0 w1 w2 w3
+    unfolding due
+    row-fits long known within room =
+        record {
+          first = rw e0 (within .first);
+          second = rw e1 (within .second);
+          third = rw e2 (within .third);
+          fourth = rw e3 (within .fourth);
+          narrow = rw e0 (first-width (r .kind) known);
+          room = omega arith;
+        }
+
+    -- a kind with its first field, and the other fields, laid one behind the other, are the row
+    pub put-row : (l : List ℕ) → r .first < 2 ^ w0
+        → put (put (put (put l p (toBits (4 + w0) (r .kind * 2 ^ w0 + r .first))) (p + 4 + w0) (toBits w1 (r .second))) (p + 4 + w0 + w1) (toBits w2 (r .third))) (p + 4 + w0 + w1 + w2) (toBits w3 (r .fourth))
+        ≡ put l p (rowBits r)
+    unfolding rowBits
+    put-row l small =
+        let t1 : List Bool = toBits 4 (r .kind) ++ toBits w0 (r .first) in
+        let t2 : List Bool = t1 ++ toBits w1 (r .second) in
+        let t3 : List Bool = t2 ++ toBits w2 (r .third) in
+        rw (
+          join-bits 4 w0 (r .kind) (r .first) small,
+          put-next l p t1 (toBits w1 (r .second)) (p + 4 + w0) (simp (length-append, length-toBits) (omega arith)),
+          put-next l p t2 (toBits w2 (r .third)) (p + 4 + w0 + w1) (simp (length-append, length-toBits) (omega arith)),
+          put-next l p t3 (toBits w3 (r .fourth)) (p + 4 + w0 + w1 + w2) (simp (length-append, length-toBits) (omega arith)),
+          ← e0,
+          ← e1,
+          ← e2,
+          ← e3,
+        )
+
+-- a kind with a first field of at most ten bits has room in 16 bits, and in those of both
+pub head-fits : (k w x : ℕ) → k < 9 → w ≤ 10 → x < 2 ^ w
+    → (k * 2 ^ w % 65536 + x ≡ k * 2 ^ w + x) × (k * 2 ^ w + x < 2 ^ (4 + w)) × (k * 2 ^ w + x < 65536)
+head-fits k w x h narrow small =
+    let y : ℕ = 2 ^ w in
+    let all : 2 ^ (4 + w) ≡ 16 * y = pow-add 2 4 w in
+    let most : k * y ≤ 8 * y = mul-le-mul-right y (omega arith) in
+    let few : y ≤ 1024 = pow-mono {j = 10} narrow in
+    let whole : k * y % 65536 ≡ k * y = mod-eq-of-lt (omega arith) in
+    (rw whole, rw all (omega arith), omega arith)
 
 -- a row takes 4 bits for its kind, and those that are due for its fields
 pub length-row : (r : Row) → length (rowBits r) ≡ 4 + due (r .kind)

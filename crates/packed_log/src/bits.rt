@@ -77,6 +77,9 @@ pub(crate) fn write_bits(buf: &mut [u8], at: usize, width: usize, value: u16)
     requires { ⌜ (width ≤ 16) × (at + width ≤ 8 * length (now buf)) × (value < 2 ^ width) ⌝ }
     ensures { λ _. ⌜ now (buf .exit) ≡ put (now (buf .entry)) at (toBits width value) ⌝ }
 {
+    if width == 0 {
+        return;
+    }
     let first = at / 8;
     write_front(&mut buf[first..], at % 8, width, value);
 }

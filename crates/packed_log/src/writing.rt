@@ -56,7 +56,15 @@ fn is_wide(r: Row) -> bool
     first | second | third | fourth
 }
 
-// Lays the kind and the fields of a row over the buffer from position `at` on.
+// A kind and its first field, of that width, as one number.
+fn head_of(kind: u8, first: u16, width: usize) -> u16
+    requires { ⌜ (kind < 9) × (width ≤ 10) × (first < 2 ^ width) ⌝ }
+    ensures { λ r. ⌜ (r ≡ kind * 2 ^ width + first) × (r < 2 ^ (4 + width)) ⌝ }
+{
+    ((kind as u16) << width) + first
+}
+
+// Lays the kind and the fields of a row over the buffer from position `at` on, the kind together with the first field.
 fn write_row(buf: &mut [u8], at: usize, r: Row)
     requires { ⌜ (r .kind < 9) × (at + 4 + due (r .kind) ≤ 8 * length (now buf)) × (at ≤ 524288) × Within r ⌝ }
     ensures { λ _. ⌜ now (buf .exit) ≡ put (now (buf .entry)) at (rowBits r) ⌝ }
@@ -66,12 +74,10 @@ fn write_row(buf: &mut [u8], at: usize, r: Row)
     let w1 = width_of(kind, 1);
     let w2 = width_of(kind, 2);
     let w3 = width_of(kind, 3);
-    let first = at + KIND_WIDTH;
-    let second = first + w0;
+    let second = at + KIND_WIDTH + w0;
     let third = second + w1;
     let fourth = third + w2;
-    write_bits(buf, at, KIND_WIDTH, kind as u16);
-    write_bits(buf, first, w0, r.first);
+    write_bits(buf, at, KIND_WIDTH + w0, head_of(kind, r.first, w0));
     write_bits(buf, second, w1, r.second);
     write_bits(buf, third, w2, r.third);
     write_bits(buf, fourth, w3, r.fourth);

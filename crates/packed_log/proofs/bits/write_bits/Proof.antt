@@ -1,10 +1,19 @@
--- `packed_log::bits::write_bits`: what is laid over the part that is lent on is laid over the whole buffer.
+-- `packed_log::bits::write_bits`: no bits change nothing; what is laid over the part that is lent on is laid over the whole buffer.
 use borrow.Author.Needs.{needs}
+use mathlib.Core.Path.{sym}
 use native.Mathlib.Omega.{arith}
 use Rattle.packed_log.specs.Bits.{Bytes, toBits}
-use Rattle.packed_log.proofs.BitsLaws.{put-part}
+use Rattle.packed_log.proofs.BitsLaws.{put-none, put-part}
 use Rattle.packed_log.proofs.bits.write_bits.Statement.{statement}
 use Rattle.packed_log.proofs.bits.write_bits.Tie as tie
+
+returns : tie.Need-returns
+unfolding toBits
+returns c =
+    let entry = c .before .before in
+    let a = entry .args in
+    let bytes : Bytes (a .buf .now) = λ i. omega (arith, c .before .slice-known .given i) in
+    rw (c .if1 .taken) (sym (put-none (a .buf .now) (a .at) bytes))
 
 sub-write-front : tie.Need-sub-write-front
 sub-write-front c = search needs
@@ -21,12 +30,11 @@ write-front-requires c κs = search needs
 same-length : tie.Need-same-length
 same-length c = search needs
 
-returns : tie.Need-returns
-returns c =
+returns-2 : tie.Need-returns-2
+returns-2 c =
     let at-write-front = c .before .before in
-    let at-slice-known = at-write-front .before .before in
-    let entry = at-slice-known .before in
-    let a = entry .args in
+    let at-slice-known = at-write-front .before .before .before in
+    let a = at-slice-known .before .args in
     let bytes : Bytes (a .buf .now) = λ i. omega (arith, at-slice-known .slice-known .given i) in
     rw (at-write-front .write-front .ensures) (put-part (a .buf .now) (a .at) (toBits (a .width) (a .value)) bytes (omega arith))
 
@@ -34,9 +42,10 @@ pub write-bits-spec : {M : Type 1} → statement M
 write-bits-spec =
     tie.close
     (tie.spec
+    returns
     sub-write-front
     part-write-front-start
     part-write-front-end
     write-front-requires
     same-length
-    returns)
+    returns-2)

@@ -2,8 +2,8 @@
 use borrow.Author.Needs.{needs}
 use mathlib.Core.Path.{_∙_}
 use native.Mathlib.Omega.{arith}
-use Rattle.packed_log.specs.Widths.{due}
-use Rattle.packed_log.proofs.WritingLaws.{put-row}
+use lib.ListN.{length}
+use Rattle.packed_log.proofs.WritingLaws.{Fits, row-fits, put-row}
 use Rattle.packed_log.proofs.writing.write_row.Statement.{statement}
 use Rattle.packed_log.proofs.writing.write_row.Tie as tie
 
@@ -19,11 +19,25 @@ width-of-requires-3 c κs = search needs
 width-of-requires-4 : tie.Need-width-of-requires-4
 width-of-requires-4 c κs = search needs
 
-add-first : tie.Need-add-first
-add-first c = search needs
+-- the start, seen from where the widths have been looked up
+abbrev start : tie.After-width-of4 → tie.Start
+start c = c .before .before .before .before .before
+
+-- the row fits what the widths say
+fits : (c : tie.After-width-of4)
+    → Fits (start c .args .r) (start c .args .at) (length (start c .args .buf .now))
+    (c .before .before .before .width-of .result) (c .before .before .width-of2 .result) (c .before .width-of3 .result) (c .width-of4 .result)
+fits c =
+    let begun = start c in
+    row-fits (begun .args .r) (begun .args .at) _ _ _ _
+    (c .before .before .before .width-of .ensures .0) (c .before .before .width-of2 .ensures .0) (c .before .width-of3 .ensures .0) (c .width-of4 .ensures .0)
+    _ (begun .pre .0) (begun .pre .3) (begun .pre .1)
 
 add-second : tie.Need-add-second
 add-second c = search needs
+
+add-second-2 : tie.Need-add-second-2
+add-second-2 c = search needs
 
 add-third : tie.Need-add-third
 add-third c = search needs
@@ -31,51 +45,52 @@ add-third c = search needs
 add-fourth : tie.Need-add-fourth
 add-fourth c = search needs
 
-cast-write-bits : tie.Need-cast-write-bits
-cast-write-bits c = search needs
+add-write-bits : tie.Need-add-write-bits
+add-write-bits c = search needs
+
+head-of-requires : tie.Need-head-of-requires
+head-of-requires c κs =
+    let held = fits (c .before) in
+    (start (c .before) .pre .0, held .narrow, held .first)
 
 write-bits-requires : tie.Need-write-bits-requires
-write-bits-requires c κs = search needs
+write-bits-requires c κs =
+    let held = fits (c .before .before) in
+    (omega (arith, held .narrow), omega (arith, held .room), c .head-of .ensures .1)
 
 write-bits-requires-2 : tie.Need-write-bits-requires-2
-unfolding due
 write-bits-requires-2 c κs =
-    let told = c .before .before .before .before .before .before .before .before in
-    (omega arith, omega arith, rw (← told .width-of .ensures .0) at (told .before .before .pre .3 .first))
+    let held = fits (c .before .before .before .before .before .before) in
+    (omega arith, omega (arith, held .room), held .second)
 
 write-bits-requires-3 : tie.Need-write-bits-requires-3
-unfolding due
 write-bits-requires-3 c κs =
-    let told = c .before .before .before .before .before .before .before .before .before .before .before in
-    (omega arith, omega arith, rw (← told .width-of2 .ensures .0) at (told .before .before .before .pre .3 .second))
+    let held = fits (c .before .before .before .before .before .before .before .before .before .before) in
+    (omega arith, omega (arith, held .room), held .third)
 
 write-bits-requires-4 : tie.Need-write-bits-requires-4
-unfolding due
 write-bits-requires-4 c κs =
-    let told = c .before .before .before .before .before .before .before .before .before .before .before .before .before .before in
-    (omega arith, omega arith, rw (← told .width-of3 .ensures .0) at (told .before .before .before .before .pre .3 .third))
-
-write-bits-requires-5 : tie.Need-write-bits-requires-5
-unfolding due
-write-bits-requires-5 c κs =
-    let told = c .before .before .before .before .before .before .before .before .before .before .before .before .before .before .before .before .before in
-    (omega arith, omega arith, rw (← told .width-of4 .ensures .0) at (told .before .before .before .before .before .pre .3 .fourth))
+    let held = fits (c .before .before .before .before .before .before .before .before .before .before .before .before .before .before) in
+    (omega arith, omega (arith, held .room), held .fourth)
 
 same-length : tie.Need-same-length
 same-length c = search needs
 
 returns : tie.Need-returns
 returns c =
-    let told = c .before .before .before .before .before .before .before .before .before .before .before .before .before .before .before .before .before .before .before .before in
-    let a = told .before .before .before .before .before .args in
-    c .before .before .write-bits5 .ensures
-    ∙ rw (
-      c .before .before .before .before .before .before .write-bits4 .ensures,
-      c .before .before .before .before .before .before .before .before .before .before .write-bits3 .ensures,
-      c .before .before .before .before .before .before .before .before .before .before .before .before .before .before .write-bits2 .ensures,
-      c .before .before .before .before .before .before .before .before .before .before .before .before .before .before .before .before .before .before .write-bits .ensures,
-    )
-    (put-row (a .buf .now) (a .at) (a .r) _ _ _ _ (told .before .before .before .width-of .ensures .0) (told .before .before .width-of2 .ensures .0) (told .before .width-of3 .ensures .0) (told .width-of4 .ensures .0))
+    let at-fourth = c .before .before in
+    let at-third = at-fourth .before .before .before .before in
+    let at-second = at-third .before .before .before .before in
+    let at-first = at-second .before .before .before .before in
+    let at-head = at-first .before in
+    let at-widths = at-head .before .before in
+    let held = fits at-widths in
+    let a = start at-widths .args in
+    at-fourth .write-bits4 .ensures
+    ∙ rw (at-third .write-bits3 .ensures, at-second .write-bits2 .ensures, at-first .write-bits .ensures, at-head .head-of .ensures .0)
+    (put-row (a .r) (a .at) _ _ _ _
+    (at-widths .before .before .before .width-of .ensures .0) (at-widths .before .before .width-of2 .ensures .0) (at-widths .before .width-of3 .ensures .0) (at-widths .width-of4 .ensures .0)
+    (a .buf .now) (held .first))
 
 pub write-row-spec : {M : Type 1} → statement M
 write-row-spec =
@@ -85,15 +100,15 @@ write-row-spec =
     width-of-requires-2
     width-of-requires-3
     width-of-requires-4
-    add-first
     add-second
+    add-second-2
     add-third
     add-fourth
-    cast-write-bits
+    add-write-bits
+    head-of-requires
     write-bits-requires
     write-bits-requires-2
     write-bits-requires-3
     write-bits-requires-4
-    write-bits-requires-5
     same-length
     returns)
