@@ -1,0 +1,67 @@
+//! Packed logs for people: `logtool text < log`, `logtool log < text` and
+//! `logtool explain < log`.
+
+use skovarnek_compare::packed::write_log;
+use skovarnek_compare::text;
+use std::env;
+use std::io::{self, Read, Write};
+use std::process::ExitCode;
+
+const USAGE: &str = "\
+usage: logtool text < log       the log as text
+       logtool log < text       the text as a packed log
+       logtool explain < log    the report, each line with its meaning";
+
+fn main() -> ExitCode {
+    let arguments: Vec<String> = env::args().skip(1).collect();
+    let words: Vec<&str> = arguments.iter().map(String::as_str).collect();
+    let result = match words[..] {
+        ["text"] => to_text(),
+        ["log"] => to_log(),
+        ["explain"] => explain(),
+        _ => Err(USAGE.to_string()),
+    };
+    match result {
+        Ok(()) => ExitCode::SUCCESS,
+        Err(message) => {
+            eprintln!("{message}");
+            ExitCode::FAILURE
+        }
+    }
+}
+
+/// A log that doesn't read gives its text as far as it reads, and the fault
+/// behind a `#`.
+fn to_text() -> Result<(), String> {
+    let (mut text, fault) = text::text_so_far(&input()?);
+    let fault = fault.map(|fault| format!("log {}, {}", fault.refusal.number(), fault.phrase()));
+    if let Some(fault) = &fault {
+        text.push_str(&format!("# {fault}\n"));
+    }
+    output(text.as_bytes())?;
+    fault.map_or(Ok(()), Err)
+}
+
+fn to_log() -> Result<(), String> {
+    let text = String::from_utf8(input()?).map_err(|_| "the text isn't UTF-8".to_string())?;
+    let log = text::parse(&text).map_err(|bad| bad.to_string())?;
+    output(&write_log(&log.opening, &log.steps))
+}
+
+fn explain() -> Result<(), String> {
+    output(text::explain(&input()?).as_bytes())
+}
+
+fn input() -> Result<Vec<u8>, String> {
+    let mut bytes = Vec::new();
+    match io::stdin().lock().read_to_end(&mut bytes) {
+        Ok(_) => Ok(bytes),
+        Err(error) => Err(format!("standard input: {error}")),
+    }
+}
+
+fn output(bytes: &[u8]) -> Result<(), String> {
+    let mut out = io::stdout().lock();
+    let written = out.write_all(bytes).and_then(|()| out.flush());
+    written.map_err(|error| format!("standard output: {error}"))
+}

@@ -1,0 +1,24 @@
+//! Logs made from seeds: the same seed always gives the same log.
+
+mod damage;
+mod full;
+mod heavy;
+mod noise;
+mod openings;
+mod random;
+mod run;
+mod sensible;
+
+pub use heavy::{Row, rows};
+pub use random::Random;
+
+/// The log of a seed: a sensible run, random steps, full tables or damage.
+pub fn log(seed: u64) -> Vec<u8> {
+    let mut random = Random::new(seed);
+    match random.below(100) {
+        0..45 => sensible::run(random).log(),
+        45..60 => noise::run(random).log(),
+        60..66 => full::run(random).log(),
+        _ => damage::log(random),
+    }
+}

@@ -1,0 +1,32 @@
+//! A second opinion on Streamlet logs.
+//!
+//! Several cemetery offices share a register of plots and agree on it by
+//! Streamlet. This package checks a packed log of their steps and gives a
+//! report. It was written from the rules alone, apart from the proved checker,
+//! so that the reports of the two can be compared byte for byte.
+//!
+//! - [`register`]: the rules: the register, its opening and the eight steps.
+//! - [`refusal`]: the numbers of refusal with their words.
+//! - [`packed`]: reading and writing a packed log.
+//! - [`report`]: the whole check, log bytes to report bytes.
+//! - [`text`]: a log as readable text and back; a report explained.
+//! - [`generate`]: logs made from seeds, to compare and to measure with.
+//! - `proved`: the proved checker's C call (feature `proved`).
+//!
+//! `cargo test --release` checks this package by itself. With `--features
+//! proved`, and `SKOVARNEK_LIB_DIR` set to the folder of `libskovarnek.a`, it
+//! compares both checkers too. `SKOVARNEK_LOGS` sets how many generated logs the
+//! tests take and `SKOVARNEK_FIRST_SEED` where their seeds start. `cargo run
+//! --release --features proved --bin bench` measures both on long logs.
+
+pub mod generate;
+pub mod packed;
+#[cfg(feature = "proved")]
+pub mod proved;
+pub mod refusal;
+pub mod register;
+pub mod report;
+pub mod text;
+
+pub use refusal::Refusal;
+pub use report::check;

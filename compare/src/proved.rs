@@ -1,0 +1,37 @@
+//! The proved checker, through its C call.
+
+#![allow(unsafe_code)]
+
+use crate::packed::LONGEST_LOG;
+
+unsafe extern "C" {
+    fn skovarnek_check(log: *const u8, log_len: usize, report: *mut u8, report_len: usize)
+    -> usize;
+}
+
+/// Writes the report on a log into the buffer and gives its length; later bytes
+/// are untouched. If the report doesn't fit: 0, and the whole buffer is zero.
+pub fn check_into(log: &[u8], buffer: &mut [u8]) -> usize {
+    // SAFETY: both pointers are good for their lengths during the call, and the
+    // exclusive borrow of the buffer keeps it apart from the log.
+    let length =
+        unsafe { skovarnek_check(log.as_ptr(), log.len(), buffer.as_mut_ptr(), buffer.len()) };
+    assert!(length <= buffer.len(), "a length beyond the lent buffer");
+    length
+}
+
+/// The report on a log.
+pub fn check(log: &[u8]) -> Vec<u8> {
+    let mut report = vec![0; room_for_report(log)];
+    let length = check_into(log, &mut report);
+    assert!(length > 0, "the report is longer than any can be");
+    report.truncate(length);
+    report
+}
+
+/// Enough bytes for the report on a log: a step takes 4 bits or more, its line
+/// `131072 26 1023` or less, an office's line `office 31 255 255` or less.
+pub fn room_for_report(log: &[u8]) -> usize {
+    let most_steps = 2 * log.len().min(LONGEST_LOG);
+    most_steps * "131072 26 1023\n".len() + 32 * "office 31 255 255\n".len()
+}

@@ -1,0 +1,92 @@
+//! Views: signatures, notarised blocks and chains, the longest of them.
+
+use super::{Block, GENESIS, LAST_BLOCK, Office, Place, Register};
+
+/// What an office's view says of each block: who has signed it.
+pub struct View<'a> {
+    register: &'a Register,
+    /// By block, a bit for each office whose signature is in the view.
+    signers: [u32; LAST_BLOCK as usize + 1],
+}
+
+/// 3 × (number of different signers) ≥ 2 × n.
+pub fn is_quorum(signers: u32, n: u8) -> bool {
+    3 * signers >= 2 * u32::from(n)
+}
+
+impl Register {
+    /// The view of an office below n, by one pass over the messages.
+    pub fn view(&self, office: Office) -> View<'_> {
+        let mut signers = [0; LAST_BLOCK as usize + 1];
+        let places = &self.local[office.index()].places;
+        for (message, &place) in self.history.iter().zip(places) {
+            if place == Place::View {
+                signers[message.block.index()] |= 1 << message.signer.0;
+            }
+        }
+        View {
+            register: self,
+            signers,
+        }
+    }
+}
+
+impl View<'_> {
+    /// Office q's signature on b is in a view if a message there has signer q
+    /// and block b, whatever its kind.
+    pub fn has_signature(&self, q: Office, b: Block) -> bool {
+        self.signers[b.index()] >> q.0 & 1 == 1
+    }
+
+    /// A block is notarised if its different signers are a quorum; genesis
+    /// always is.
+    pub fn is_notarised(&self, block: Block) -> bool {
+        let signers = self.signers[block.index()].count_ones();
+        block == GENESIS || is_quorum(signers, self.register.n())
+    }
+
+    /// A chain is valid if each epoch is greater than its parent's, and
+    /// notarised if it is valid and all its blocks are.
+    pub fn is_notarised_chain(&self, last: Block) -> bool {
+        let mut block = last;
+        while block != GENESIS {
+            if !self.is_notarised_link(block) {
+                return false;
+            }
+            block = self.register.block(block).parent;
+        }
+        true
+    }
+
+    /// A notarised chain than which no notarised chain of this view is longer.
+    pub fn is_longest(&self, last: Block) -> bool {
+        self.is_notarised_chain(last) && !self.has_longer(self.register.chain_length(last))
+    }
+
+    /// A block that can stand in a notarised chain: notarised itself, and of a
+    /// greater epoch than its parent.
+    fn is_notarised_link(&self, block: Block) -> bool {
+        let record = self.register.block(block);
+        self.is_notarised(block) && record.epoch > self.register.block(record.parent).epoch
+    }
+
+    /// Whether a notarised chain is longer than `length`. A parent's number is
+    /// smaller than its child's, so one walk over the blocks meets each chain
+    /// after the chain that it extends. It stops at the first longer one.
+    fn has_longer(&self, length: usize) -> bool {
+        let mut lengths = [None; LAST_BLOCK as usize + 1];
+        lengths[GENESIS.index()] = Some(0);
+        for block in (1..=self.register.last_block().0).map(Block) {
+            let parent = self.register.block(block).parent;
+            if let Some(shorter) = lengths[parent.index()]
+                && self.is_notarised_link(block)
+            {
+                if shorter + 1 > length {
+                    return true;
+                }
+                lengths[block.index()] = Some(shorter + 1);
+            }
+        }
+        false
+    }
+}

@@ -1,0 +1,93 @@
+//! What the generated logs bring: each refusal that a log can bring, in each
+//! step that can bring it, and accepted steps of each kind.
+
+use skovarnek_compare::generate;
+use skovarnek_compare::packed::read_log;
+use skovarnek_compare::refusal::Refusal;
+use skovarnek_compare::register::Register;
+use skovarnek_compare::text::step_word;
+use std::collections::BTreeMap;
+
+/// By kind of step, the outcomes that a log can show: 0 is accepted. Kind 0 is
+/// the log itself.
+const OUTCOMES: [&[u8]; 9] = [
+    // The log itself.
+    &[0, 1, 2, 3, 4, 27, 28, 29, 30],
+    // Propose: 20 needs a notarised block of this epoch before the leader acts.
+    &[0, 6, 7, 10, 12, 13, 19, 25, 26],
+    // Vote
+    &[0, 6, 8, 10, 12, 14, 15, 16, 17, 18, 19, 20, 26],
+    // Register
+    &[0, 6, 8, 10, 15, 16, 18],
+    // Finalise
+    &[0, 6, 7, 10, 21],
+    // Deliver
+    &[0, 6, 8, 23],
+    // Bad send
+    &[0, 6, 7, 11, 22, 26],
+    // Draft: an epoch above 511 doesn't fit its field.
+    &[0, 7, 25],
+    // Advance
+    &[0, 24],
+];
+
+type Table = BTreeMap<(u8, u8), usize>;
+
+fn count(log: &[u8], table: &mut Table) {
+    let outcome = |refusal: Option<Refusal>| refusal.map_or(0, Refusal::number);
+    let mut hit = |kind: u8, refusal| *table.entry((kind, outcome(refusal))).or_default() += 1;
+    match read_log(log) {
+        Err(refusal) => hit(0, Some(refusal)),
+        Ok(log) => {
+            hit(0, None);
+            let mut register = Register::open(&log.opening).expect("a log that reads opens");
+            for step in &log.steps {
+                hit(step.kind(), register.step(step).err());
+            }
+        }
+    }
+}
+
+#[test]
+fn generated_logs_bring_everything() {
+    let mut table = Table::new();
+    for seed in 0..4000 {
+        count(&generate::log(seed), &mut table);
+    }
+    let mut missing = Vec::new();
+    for (kind, outcomes) in (0..).zip(OUTCOMES) {
+        let word = if kind == 0 { "log" } else { step_word(kind) };
+        let hits = |outcome: u8| table.get(&(kind, outcome)).copied().unwrap_or(0);
+        let row: Vec<String> = outcomes
+            .iter()
+            .map(|&o| format!("{o}: {}", hits(o)))
+            .collect();
+        println!("{word:<9} {}", row.join("  "));
+        let absent = outcomes.iter().filter(|&&outcome| hits(outcome) == 0);
+        missing.extend(absent.map(|outcome| format!("{word} {outcome}")));
+    }
+    assert!(missing.is_empty(), "never brought: {}", missing.join(", "));
+    let known = |&(kind, outcome): &(u8, u8)| OUTCOMES[usize::from(kind)].contains(&outcome);
+    assert!(table.keys().all(known), "an outcome that no log can show");
+}
+
+#[test]
+fn a_seed_gives_one_log() {
+    for seed in 0..50 {
+        assert_eq!(generate::log(seed), generate::log(seed));
+    }
+    assert_ne!(generate::log(0), generate::log(1));
+}
+
+#[test]
+fn heavy_logs_are_what_they_say() {
+    for row in generate::rows() {
+        let length = row.log.len();
+        assert!(
+            (65_490..=65_536).contains(&length),
+            "{}: {length} bytes",
+            row.name
+        );
+        assert!(row.holds(), "{}: {:?}", row.name, row.count());
+    }
+}

@@ -1,0 +1,80 @@
+//! The tool as it is called.
+
+use super::cases;
+use std::io::Write;
+use std::process::{Command, Output, Stdio};
+
+fn logtool(argument: &str, input: &[u8]) -> Output {
+    let mut child = Command::new(env!("CARGO_BIN_EXE_logtool"))
+        .arg(argument)
+        .stdin(Stdio::piped())
+        .stdout(Stdio::piped())
+        .stderr(Stdio::piped())
+        .spawn()
+        .expect("the tool starts");
+    let mut stdin = child.stdin.take().expect("a pipe");
+    stdin.write_all(input).expect("the tool reads");
+    drop(stdin);
+    child.wait_with_output().expect("the tool ends")
+}
+
+fn words(bytes: &[u8]) -> String {
+    String::from_utf8_lossy(bytes).into_owned()
+}
+
+#[test]
+fn text_and_log() {
+    let whole = cases::all().swap_remove(0).log;
+    let text = logtool("text", &whole);
+    assert!(text.status.success());
+    let start = "offices 3\ntrusted 0 1 2\nleaders 0 0 0\npropose 0 0 7\n";
+    assert!(words(&text.stdout).starts_with(start));
+    let log = logtool("log", &text.stdout);
+    assert!(log.status.success());
+    assert_eq!(log.stdout, whole);
+}
+
+#[test]
+fn explained() {
+    let whole = cases::all().swap_remove(0).log;
+    let explained = logtool("explain", &whole);
+    assert!(explained.status.success());
+    let explained = words(&explained.stdout);
+    let line = |place: usize| explained.lines().nth(place).map(single_spaced);
+    let wanted = "4 21 0 finalise 1 1 not final: finalise condition unmet";
+    assert_eq!(line(3).as_deref(), Some(wanted));
+    let wanted = "19 0 2 finalise 1 3 accepted: block 2 is final";
+    assert_eq!(line(18).as_deref(), Some(wanted));
+    let wanted = "office 1 2 2 final block 2, a chain of 2 blocks";
+    assert_eq!(line(20).as_deref(), Some(wanted));
+}
+
+fn single_spaced(line: &str) -> String {
+    line.split_whitespace().collect::<Vec<&str>>().join(" ")
+}
+
+#[test]
+fn a_log_that_does_not_read() {
+    // Two bits set in the pad of a log without steps.
+    let log = [0x0F, 0x80, 0xC0, 0x00, 0x03];
+    let explained = logtool("explain", &log);
+    assert!(explained.status.success());
+    let wanted = "log 29 ending: a pad bit set, or bytes after the pad (at bit 33, after 0 steps)";
+    assert_eq!(single_spaced(&words(&explained.stdout)), wanted);
+    let text = logtool("text", &log);
+    assert!(!text.status.success());
+    assert!(words(&text.stdout).contains("leaders 0 0 0\n# log 29, ending: "));
+}
+
+#[test]
+fn bad_input() {
+    let log = logtool("log", b"offices 3\ntrusted 0 1 2\nleaders 0\nvote 1\n");
+    assert!(!log.status.success());
+    assert!(log.stdout.is_empty());
+    let message = words(&log.stderr);
+    assert_eq!(
+        message,
+        "line 4: vote takes 2 fields (office message), not 1\n"
+    );
+    assert!(!logtool("dance", b"").status.success());
+}

@@ -1,0 +1,20 @@
+//! The tests: hand-written cases, what the generated logs bring, the text form,
+//! the tool, and (feature `proved`) the comparison of both checkers.
+
+mod cases;
+mod coverage;
+mod logtool;
+#[cfg(feature = "proved")]
+mod proved;
+mod registers;
+mod text;
+
+/// How many generated logs the tests look at, and the first seed.
+fn seeds() -> std::ops::Range<u64> {
+    let number = |name: &str, default: u64| match std::env::var(name) {
+        Ok(value) => value.parse().expect("a number"),
+        Err(_) => default,
+    };
+    let first = number("SKOVARNEK_FIRST_SEED", 0);
+    first..first + number("SKOVARNEK_LOGS", 4000)
+}

@@ -1,0 +1,119 @@
+//! Both checkers, byte for byte.
+
+use super::{cases, seeds};
+use skovarnek_compare::{check, generate, proved, text};
+
+/// Fills the lent buffer before a call, so that each byte written shows.
+const DIRT: u8 = 0xA5;
+
+fn assert_same(name: &str, log: &[u8]) {
+    let (ours, theirs) = (check(log), proved::check(log));
+    if ours != theirs {
+        panic!("{name}\n{}", difference(log, &ours, &theirs));
+    }
+}
+
+/// The first line that differs, with the log's text up to that step.
+fn difference(log: &[u8], ours: &[u8], theirs: &[u8]) -> String {
+    let lines = |report: &[u8]| -> Vec<String> {
+        let report = String::from_utf8_lossy(report);
+        report.lines().map(str::to_string).collect()
+    };
+    let (ours, theirs) = (lines(ours), lines(theirs));
+    let same = ours.iter().zip(&theirs).take_while(|(a, b)| a == b).count();
+    let (text, fault) = text::text_so_far(log);
+    // The opening has three lines, and the differing step one.
+    let text: Vec<&str> = text.lines().take(3 + same + 1).collect();
+    format!(
+        "here {:?}\nproved {:?}\nfault {fault:?}\n{}",
+        ours.get(same),
+        theirs.get(same),
+        text.join("\n")
+    )
+}
+
+/// A call with a buffer of this length: what it has to leave there.
+fn assert_buffer(name: &str, log: &[u8], report: &[u8], length: usize) {
+    let mut buffer = vec![DIRT; length];
+    let written = proved::check_into(log, &mut buffer);
+    if report.len() <= length {
+        assert_eq!(written, report.len(), "{name}, buffer of {length}");
+        assert_eq!(&buffer[..written], report, "{name}, buffer of {length}");
+        let untouched = buffer[written..].iter().all(|&byte| byte == DIRT);
+        assert!(untouched, "{name}, buffer of {length}: later bytes touched");
+    } else {
+        assert_eq!(written, 0, "{name}, buffer of {length}");
+        let zero = buffer.iter().all(|&byte| byte == 0);
+        assert!(zero, "{name}, buffer of {length}: not all zero");
+    }
+}
+
+/// Every length around the report's, and all shorter ones if they are few.
+fn assert_buffers(name: &str, log: &[u8]) {
+    let report = check(log);
+    let around = report.len().saturating_sub(20)..=report.len() + 20;
+    let shorter = match report.len() {
+        0..200 => (0..report.len()).collect(),
+        _ => vec![0, 1, 2, 3, 7, report.len() / 3, report.len() / 2],
+    };
+    for length in shorter.into_iter().chain(around) {
+        assert_buffer(name, log, &report, length);
+    }
+    assert_buffer(name, log, &report, report.len() + 4096);
+}
+
+#[test]
+fn the_cases() {
+    for case in cases::all() {
+        let report = String::from_utf8_lossy(&proved::check(&case.log)).into_owned();
+        assert_eq!(report, case.report, "{}", case.name);
+        assert_same(&case.name, &case.log);
+    }
+}
+
+#[test]
+fn the_generated_logs() {
+    for seed in seeds() {
+        assert_same(&format!("seed {seed}"), &generate::log(seed));
+    }
+}
+
+#[test]
+fn every_cut_of_generated_logs() {
+    for seed in seeds().take(60) {
+        let log = generate::log(seed);
+        for length in 0..log.len().min(150) {
+            assert_same(&format!("seed {seed} cut to {length}"), &log[..length]);
+        }
+    }
+}
+
+#[test]
+fn buffers_of_every_length() {
+    for case in cases::all() {
+        if case.report.len() < 20_000 {
+            assert_buffers(&case.name, &case.log);
+        }
+    }
+    for seed in seeds().take(200) {
+        let log = generate::log(seed);
+        if log.len() < 2_000 {
+            assert_buffers(&format!("seed {seed}"), &log);
+        }
+    }
+}
+
+/// The longest report, in a buffer that fits exactly and in one too short.
+#[test]
+fn buffers_for_a_long_report() {
+    let longest = cases::all()
+        .into_iter()
+        .max_by_key(|case| case.report.len());
+    let Some(case) = longest else {
+        return;
+    };
+    let length = case.report.len();
+    for length in [length - 1, length, length + 1] {
+        assert_buffer(&case.name, &case.log, case.report.as_bytes(), length);
+    }
+}
