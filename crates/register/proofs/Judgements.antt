@@ -46,6 +46,10 @@ unfolding stillOf headOf
 still-counts r still fits is =
     subst⁻¹ (λ (s : Change). Counts (s .head .n) (s .head .length) (s .head .epoch .0) (s .head .count)) is (counts r fits)
 
+pub still-last : (r : Register) (still : Change) → r .last .0 ≤ 255 → still ≡ stillOf r → still .head .last .0 ≤ 255
+unfolding stillOf headOf
+still-last r still small is = subst⁻¹ (λ (s : Change). s .head .last .0 ≤ 255) is small
+
 -- the entries of a refused step, or of an accepted one, are within the tables
 answer-within : (still : Change) (k : ℕ) (c : Change) → Within still → (k ≡ 0 → Within c) → Within (answer still k c)
 unfolding answer

@@ -12,11 +12,10 @@ use Rattle.register.specs.declared.change.Change.{Change}
 use Rattle.register.specs.declared.table.Register.{Register}
 use Rattle.register.specs.declared.table.Stepped.{Stepped}
 use Rattle.register.specs.declared.table.Ran.{Ran}
-use Rattle.register.specs.Tables.{block}
 use Rattle.register.specs.Fitness.{fit}
 use Rattle.register.specs.Steps.{refusal, judged, stepRule, quickRule}
 use Rattle.register.specs.Runs.{stepAt, andThen, ranFirst}
-use Rattle.register.specs.Changes.{written, stepped, Judged}
+use Rattle.register.specs.Changes.{written, stepped}
 
 -- a change that is written and answered at its place is one step more
 pub ran-next : (r s : Register) (steps : List Step) (i : ℕ) (refusals values : List ℕ) (c : Change)
@@ -32,32 +31,6 @@ ran-next r s steps i refusals values c so-far answer =
     record { register = written s c; refusals = set refusals i (c .refusal); values = set values i (c .value) }
     ≡ andThen y i (quickRule (y .register) (stepAt steps i))) so-far
     (ap (λ (z : Stepped). andThen (record { register = s; refusals = refusals; values = values }) i z) answer))
-
--- a register whose last block has the number b
-abbrev pub withLast : Register → ℕ → Register
-withLast r b =
-    record {
-      n = r .n;
-      trust = r .trust;
-      length = r .length;
-      leaders = r .leaders;
-      epoch = r .epoch;
-      last = block b;
-      parents = r .parents;
-      epochs = r .epochs;
-      payloads = r .payloads;
-      count = r .count;
-      votes = r .votes;
-      signers = r .signers;
-      subjects = r .subjects;
-      places = r .places;
-      acted = r .acted;
-      finals = r .finals;
-    }
-
--- the number of the last block, read and put back
-pub judged-same : (r : Register) (b : ℕ) (step : Step) (c : Change) → b ≡ r .last .0 → Judged (withLast r b) step c → Judged r step c
-judged-same r b step c e j = subst (λ (x : ℕ). Judged (withLast r x) step c) e j
 
 -- a batch of one step
 pub ran-one : (r : Register) (step : Step) (ran : Ran) → ran ≡ ranFirst r (replicate 64 step) 1

@@ -2,7 +2,7 @@
 // table alone the entry is one that the table has already, so that a change is written to the register without a branch.
 ghost use mathlib.Core.Path.{_≡_};
 ghost use Prim.Native.Nat.{_≤_, _<_};
-ghost use Rattle.register.specs.Changes.{refusing, moving, ending, naming, sending, heading};
+ghost use Rattle.register.specs.Changes.{refusing, moving, ending, naming, sending};
 use crate::sorts::Block;
 use crate::sorts::Epoch;
 
@@ -126,15 +126,6 @@ impl Change {
         self.head = head;
         self.message = message;
         self.place = place;
-        self
-    }
-
-    // Another value and other single numbers.
-    pub(crate) fn headed(mut self, value: u16, head: Head) -> Change
-        ensures { λ r. ⌜ r ≡ heading self value head ⌝ }
-    {
-        self.value = value;
-        self.head = head;
         self
     }
 }

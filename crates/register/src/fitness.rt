@@ -3,20 +3,18 @@ ghost use mathlib.Core.Path.{_≡_};
 ghost use mathlib.Core.Bool.{not};
 ghost use mathlib.Core.List.{[], _∷_};
 ghost use Prim.Native.Nat.{_+_, _≤_};
-ghost use lib.Dec.{eqb, ltb, leb};
+ghost use lib.Dec.{ltb, leb};
 ghost use lib.ListN.{getD};
-ghost use Rattle.words.specs.Tests.{both, either, conj, all, between};
-ghost use Rattle.words.specs.Digits.{digit};
+ghost use Rattle.words.specs.Tests.{either, conj, all, between};
 ghost use Rattle.register.specs.Tables.{trustedIn};
 ghost use Rattle.register.specs.Fitness.{blockFits, messageFits, fit};
-use crate::sorts::Block;
+use crate::scan::entry;
 use crate::sorts::Epoch;
-use crate::sorts::Office;
 use crate::table::Register;
 
-// The single numbers are in their ranges.
-pub(crate) fn counts_fit(n: u8, length: u16, epoch: Epoch, count: u16) -> bool
-    ensures { λ r. ⌜ r ≡ conj (between 1 32 n ∷ between 1 256 length ∷ between 1 length (epoch .0) ∷ leb count 1024 ∷ []) ⌝ }
+// The single numbers are in their ranges. The last block's number always is: a caller that has it from a struct learns so here.
+pub(crate) fn counts_fit(n: u8, length: u16, epoch: Epoch, last: u8, count: u16) -> bool
+    ensures { λ r. ⌜ (r ≡ conj (between 1 32 n ∷ between 1 256 length ∷ between 1 length (epoch .0) ∷ leb count 1024 ∷ [])) × (last ≤ 255) ⌝ }
 {
     words::between(1, 32, n as usize)
         & words::between(1, 256, length as usize)
@@ -81,7 +79,7 @@ fn messages_fit<'a>(
     let mut fits = true;
     let mut m = 0;
     while m < count {
-        fits = fits & message_fits(n, last, signers[m], subjects[m]);
+        fits = fits & message_fits(n, last, entry(signers, m), entry(subjects, m));
         m += 1;
     }
     fits
@@ -106,15 +104,16 @@ impl Register {
     pub fn is_fit(self) -> bool
         ensures { λ r. ⌜ r ≡ fit self ⌝ }
     {
+        let n = self.n;
         let length = self.length;
         let count = self.count;
         let last = self.last.0;
-        if !counts_fit(self.n, length, self.epoch, count) {
+        if !counts_fit(n, length, self.epoch, last, count) {
             return false;
         }
-        leaders_fit(&self.leaders, length as usize, self.n)
+        leaders_fit(&self.leaders, length as usize, n)
             & blocks_fit(&self.parents, &self.epochs, last)
-            & messages_fit(&self.signers, &self.subjects, count as usize, self.n, last)
-            & finals_fit(&self.finals, self.n, self.trust, last)
+            & messages_fit(&self.signers, &self.subjects, count as usize, n, last)
+            & finals_fit(&self.finals, n, self.trust, last)
     }
 }

@@ -11,6 +11,7 @@ ghost use Rattle.words.specs.Digits.{digit};
 ghost use Rattle.register.specs.Tables.{parentIn, epochIn};
 ghost use Rattle.register.specs.Views.{view, signedIn, enough};
 ghost use Rattle.register.specs.Searches.{setOf, soundBy, soundIn};
+use crate::scan::entry;
 use crate::scan::epoch_at;
 use crate::scan::parent_at;
 use crate::stage::VIEW;
@@ -49,8 +50,8 @@ pub(crate) fn gather<'a>(
     let mut sets = [0u32; 256];
     let mut m = 0;
     while m < count {
-        let b = index(subjects[m]);
-        sets[b] = entered(sets[b], words::stage(places[m], q), signers[m]);
+        let b = index(entry(subjects, m));
+        sets[b] = entered(sets[b], words::stage(places[m], q), entry(signers, m));
         m += 1;
     }
     sets

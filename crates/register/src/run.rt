@@ -5,7 +5,6 @@ ghost use Rattle.register.specs.Steps.{stepRule, quickRule};
 ghost use Rattle.register.specs.Runs.{ranFirst};
 use crate::change::Head;
 use crate::refusal;
-use crate::scan;
 use crate::sorts::Block;
 use crate::sorts::Epoch;
 use crate::sorts::Kind;
@@ -41,14 +40,12 @@ impl Register {
         let mut values = [0u16; 64];
         let mut i = 0;
         while i < limit {
-            let step = steps[i];
-            let last = Block(scan::block_number(self.last.0));
             let head = Head {
                 n: self.n,
                 trust: self.trust,
                 length: self.length,
                 epoch: self.epoch,
-                last,
+                last: self.last,
                 count: self.count,
                 acted: self.acted,
             };
@@ -63,12 +60,10 @@ impl Register {
                 &self.subjects,
                 &self.places,
                 &self.finals,
-                step,
+                steps[i],
             );
-            let epoch = c.head.epoch;
-            self.epoch = epoch;
-            let last = c.head.last;
-            self.last = last;
+            self.epoch.0 = c.head.epoch.0;
+            self.last.0 = c.head.last.0;
             self.count = c.head.count;
             self.acted = c.head.acted;
             let b = c.block.at;

@@ -80,6 +80,14 @@ pub(crate) fn name_block<'a>(
     (last as u16) + 1
 }
 
+// Entry m of the column of signers or of that of blocks.
+pub(crate) fn entry(column: &[u8; 1024], m: usize) -> u8
+    requires { ⌜ m < 1024 ⌝ }
+    ensures { λ r. ⌜ r ≡ getD (now (column .entry)) m 0 ⌝ }
+{
+    column[m]
+}
+
 // Message m has that signer and that block.
 fn says<'a>(signers: &'a [u8; 1024], subjects: &'a [u8; 1024], signer: u8, b: u8, m: usize) -> bool
     requires { ⌜ m < 1024 ⌝ }
@@ -195,11 +203,4 @@ pub(crate) fn is_signed<'a>(
         k += 1;
     }
     false
-}
-
-// A block's number as it is: a caller that has it from a struct learns its range.
-pub(crate) fn block_number(b: u8) -> u8
-    ensures { λ r. ⌜ (r ≡ b) × (b ≤ 255) ⌝ }
-{
-    b
 }

@@ -71,11 +71,12 @@ fn mark(word: u32, q: u8) -> u32
 }
 
 // The change after which office q, which was ready, has acted.
-pub(crate) fn acted(change: Change, q: u8) -> Change
+pub(crate) fn acted(mut change: Change, q: u8) -> Change
     requires { ⌜ (q < 32) × (digit 2 (change .head .acted) q + 1 < 2) ⌝ }
     ensures { λ r. ⌜ r ≡ heading change (change .value) (actedHead (change .head) q) ⌝ }
 {
     let mut head = change.head;
     head.acted = mark(head.acted, q);
-    change.headed(change.value, head)
+    change.head = head;
+    change
 }

@@ -9,7 +9,7 @@ use crate::change::Change;
 use crate::refusal;
 use crate::sorts::Epoch;
 
-pub(crate) fn advance(still: Change) -> Change
+pub(crate) fn advance(mut still: Change) -> Change
     requires { ⌜ still .head .length ≤ 256 ⌝ }
     ensures { λ r. ⌜ r ≡ answer still (first (advance (whole (still .head) [] [] [] [] [] [] [] [] []) .tests)) (heading still (still .head .epoch .0 + 1) (nextHead (still .head))) ⌝ }
 {
@@ -21,5 +21,7 @@ pub(crate) fn advance(still: Change) -> Change
     let next = Epoch(epoch + 1);
     head.epoch = next;
     head.acted = 0;
-    still.headed(epoch + 1, head)
+    still.head = head;
+    still.value = epoch + 1;
+    still
 }

@@ -69,17 +69,16 @@ fn bad_send_refusal<'a>(
     requires { ⌜ head .count ≤ 1024 ⌝ }
     ensures { λ r. ⌜ r ≡ first (badSend (whole head [] [] [] [] (now (votes .entry)) (now (signers .entry)) (now (subjects .entry)) [] []) sender kind signer about .tests) ⌝ }
 {
-    let b = about.0;
     if (head.n <= sender.0) | (head.n <= signer.0) {
         return refusal::NO_OFFICE;
     }
-    if (b == 0) | (head.last.0 < b) {
+    if (about.0 == 0) | (head.last.0 < about.0) {
         return refusal::NO_BLOCK;
     }
     if scan::trusted_at(head.n, head.trust, sender.0) {
         return refusal::TRUSTED_SENDER;
     }
-    if is_forged(head, votes, signers, subjects, kind, signer.0, b) {
+    if is_forged(head, votes, signers, subjects, kind, signer.0, about.0) {
         return refusal::FORGED;
     }
     if head.count >= 1024 {

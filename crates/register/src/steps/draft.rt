@@ -22,20 +22,28 @@ pub(crate) fn draft<'a>(
     epoch: Epoch,
     payload: u16,
 ) -> Change
+    requires { ⌜ still .head .last .0 ≤ 255 ⌝ }
     ensures { λ r. ⌜ r ≡ answer still (first (draft (whole (still .head) [] (now (parents .entry)) (now (epochs .entry)) (now (payloads .entry)) [] [] [] [] []) parent epoch payload .tests)) (drafted still (namedIn (now (parents .entry)) (now (epochs .entry)) (now (payloads .entry)) (still .head .last .0) (parent .0) (epoch .0) payload) (parent .0) (epoch .0) payload) ⌝ }
 {
-    let last = scan::block_number(still.head.last.0);
-    if last < parent.0 {
+    if still.head.last.0 < parent.0 {
         return still.refused(refusal::NO_BLOCK);
     }
     if 511 < epoch.0 {
         return still.refused(refusal::WIDE);
     }
-    let b = scan::name_block(parents, epochs, payloads, last, parent.0, epoch.0, payload);
+    let b = scan::name_block(
+        parents,
+        epochs,
+        payloads,
+        still.head.last.0,
+        parent.0,
+        epoch.0,
+        payload,
+    );
     if b > 255 {
         return still.refused(refusal::BLOCKS_FULL);
     }
-    let named = still.named(b, parent.0, epoch.0, payload);
-    let head = named.head;
-    named.headed(b, head)
+    let mut named = still.named(b, parent.0, epoch.0, payload);
+    named.value = b;
+    named
 }

@@ -28,21 +28,19 @@ fn enter_refusal<'a>(
     requires { ⌜ head .count ≤ 1024 ⌝ }
     ensures { λ r. ⌜ r ≡ first (register (whole head [] [] [] [] (now (votes .entry)) (now (signers .entry)) (now (subjects .entry)) (now (places .entry)) []) office message .tests) ⌝ }
 {
-    let q = office.0;
-    let m = message.0;
-    if head.n <= q {
+    if head.n <= office.0 {
         return refusal::NO_OFFICE;
     }
-    if head.count <= m {
+    if head.count <= message.0 {
         return refusal::NO_MESSAGE;
     }
-    if !scan::trusted_at(head.n, head.trust, q) {
+    if !scan::trusted_at(head.n, head.trust, office.0) {
         return refusal::BARRED;
     }
-    if stage_of(head, places, q, m) != INBOX {
+    if stage_of(head, places, office.0, message.0) != INBOX {
         return refusal::NOT_IN_HAND;
     }
-    let at = m as usize;
+    let at = message.0 as usize;
     if !votes[at] {
         return refusal::KIND;
     }
@@ -51,9 +49,9 @@ fn enter_refusal<'a>(
         signers,
         subjects,
         head.count as usize,
-        q,
-        signers[at],
-        subjects[at],
+        office.0,
+        scan::entry(signers, at),
+        scan::entry(subjects, at),
     ) {
         return refusal::ENTERED;
     }

@@ -77,18 +77,25 @@ fn finalise_refusal<'a>(
     requires { ⌜ (head .n ≤ 32) × (head .count ≤ 1024) ⌝ }
     ensures { λ r. ⌜ r ≡ first (finalise (whole head [] (now (parents .entry)) (now (epochs .entry)) [] [] (now (signers .entry)) (now (subjects .entry)) (now (places .entry)) []) office newest .tests) ⌝ }
 {
-    let q = office.0;
-    let b = newest.0;
-    if head.n <= q {
+    if head.n <= office.0 {
         return refusal::NO_OFFICE;
     }
-    if head.last.0 < b {
+    if head.last.0 < newest.0 {
         return refusal::NO_BLOCK;
     }
-    if !scan::trusted_at(head.n, head.trust, q) {
+    if !scan::trusted_at(head.n, head.trust, office.0) {
         return refusal::BARRED;
     }
-    if !is_final(head, signers, subjects, places, parents, epochs, q, b) {
+    if !is_final(
+        head,
+        signers,
+        subjects,
+        places,
+        parents,
+        epochs,
+        office.0,
+        newest.0,
+    ) {
         return refusal::NOT_FINAL;
     }
     0
@@ -123,5 +130,7 @@ pub(crate) fn finalise<'a>(
         return still.refused(refusal);
     }
     let b = scan::parent_at(parents, head.last.0, newest.0);
-    still.ended(office.0 as usize, b).headed(b as u16, head)
+    let mut ended = still.ended(office.0 as usize, b);
+    ended.value = b as u16;
+    ended
 }

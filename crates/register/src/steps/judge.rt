@@ -1,7 +1,6 @@
 // Any of the eight steps, as the change that it makes.
 ghost use mathlib.Core.Path.{_≡_};
 ghost use mathlib.Core.List.{[]};
-ghost use Prim.Native.Nat.{_≤_};
 ghost use Rattle.register.specs.Changes.{whole, stillOf, Judged};
 use crate::change::BlockEntry;
 use crate::change::Change;
@@ -41,12 +40,13 @@ fn unchanged<'a>(
         epoch: epochs[0],
         payload: payloads[0],
     };
+    let place = places[0];
     let message = MessageEntry {
         at: 0,
         vote: votes[0],
         signer: signers[0],
         subject: subjects[0],
-        place: places[0],
+        place,
     };
     Change {
         refusal: 0,
@@ -54,10 +54,7 @@ fn unchanged<'a>(
         head,
         block,
         message,
-        place: PlaceEntry {
-            at: 0,
-            place: places[0],
-        },
+        place: PlaceEntry { at: 0, place },
         ending: FinalEntry {
             at: 0,
             block: finals[0],
@@ -79,7 +76,6 @@ pub(crate) fn judge<'a>(
     finals: &'a [u8; 32],
     step: Step,
 ) -> Change
-    requires { ⌜ head .last .0 ≤ 255 ⌝ }
     ensures { λ r. ⌜ Judged (whole head (now (leaders .entry)) (now (parents .entry)) (now (epochs .entry)) (now (payloads .entry)) (now (votes .entry)) (now (signers .entry)) (now (subjects .entry)) (now (places .entry)) (now (finals .entry))) step r ⌝ }
 {
     let still = unchanged(
@@ -93,7 +89,7 @@ pub(crate) fn judge<'a>(
         places,
         finals,
     );
-    if !fitness::counts_fit(head.n, head.length, head.epoch, head.count) {
+    if !fitness::counts_fit(head.n, head.length, head.epoch, head.last.0, head.count) {
         return still.refused(refusal::UNFIT_REGISTER);
     }
     match step {

@@ -37,6 +37,7 @@ pub(crate) fn move_on(still: Change, places: &[u64; 1024], q: u8, m: u16) -> Cha
     ensures { λ r. ⌜ r ≡ movedOn still (now (places .entry)) m q ⌝ }
 {
     let at = m as usize;
-    let head = still.head;
-    still.moved(at, raised(places[at], q)).headed(m, head)
+    let mut moved = still.moved(at, raised(places[at], q));
+    moved.value = m;
+    moved
 }

@@ -29,20 +29,19 @@ fn leader_refusal(
     requires { ⌜ (1 ≤ head .epoch .0) × (head .epoch .0 ≤ 256) ⌝ }
     ensures { λ r. ⌜ r ≡ first (until 19 (propose (whole head (now (leaders .entry)) [] [] [] [] [] [] [] []) office parent payload .tests)) ⌝ }
 {
-    let q = office.0;
-    if head.n <= q {
+    if head.n <= office.0 {
         return refusal::NO_OFFICE;
     }
     if head.last.0 < parent.0 {
         return refusal::NO_BLOCK;
     }
-    if !scan::trusted_at(head.n, head.trust, q) {
+    if !scan::trusted_at(head.n, head.trust, office.0) {
         return refusal::BARRED;
     }
-    if words::has(head.acted, q) {
+    if words::has(head.acted, office.0) {
         return refusal::ACTED;
     }
-    if !act::leads(head, leaders, q) {
+    if !act::leads(head, leaders, office.0) {
         return refusal::NOT_LEADER;
     }
     0
@@ -106,7 +105,7 @@ pub(crate) fn propose<'a>(
     parent: Block,
     payload: u16,
 ) -> Change
-    requires { ⌜ (still .head .n ≤ 32) × (still .head .count ≤ 1024) × (1 ≤ still .head .epoch .0) × (still .head .epoch .0 ≤ 256) ⌝ }
+    requires { ⌜ (still .head .n ≤ 32) × (still .head .count ≤ 1024) × (1 ≤ still .head .epoch .0) × (still .head .epoch .0 ≤ 256) × (still .head .last .0 ≤ 255) ⌝ }
     ensures { λ r. ⌜ r ≡ answer still (first (propose (whole (still .head) (now (leaders .entry)) (now (parents .entry)) (now (epochs .entry)) (now (payloads .entry)) [] (now (signers .entry)) (now (subjects .entry)) (now (places .entry)) []) office parent payload .tests)) (proposed still (namedIn (now (parents .entry)) (now (epochs .entry)) (now (payloads .entry)) (still .head .last .0) (parent .0) (still .head .epoch .0) payload) (parent .0) (still .head .epoch .0) payload (office .0) (fill 4 (still .head .n) (sentStage (whole (still .head) [] [] [] [] [] [] [] [] []) (office .0)))) ⌝ }
 {
     let head = still.head;
@@ -125,12 +124,11 @@ pub(crate) fn propose<'a>(
     if refusal != 0 {
         return still.refused(refusal);
     }
-    let last = scan::block_number(head.last.0);
     let b = scan::name_block(
         parents,
         epochs,
         payloads,
-        last,
+        head.last.0,
         parent.0,
         head.epoch.0,
         payload,

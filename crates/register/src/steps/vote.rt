@@ -27,17 +27,16 @@ use crate::steps::sent::sent_place;
 fn ready_refusal(head: Head, office: Office, message: Message) -> u8
     ensures { λ r. ⌜ r ≡ first (until 14 (vote (whole head [] [] [] [] [] [] [] [] []) office message .tests)) ⌝ }
 {
-    let q = office.0;
-    if head.n <= q {
+    if head.n <= office.0 {
         return refusal::NO_OFFICE;
     }
     if head.count <= message.0 {
         return refusal::NO_MESSAGE;
     }
-    if !scan::trusted_at(head.n, head.trust, q) {
+    if !scan::trusted_at(head.n, head.trust, office.0) {
         return refusal::BARRED;
     }
-    if words::has(head.acted, q) {
+    if words::has(head.acted, office.0) {
         return refusal::ACTED;
     }
     0
@@ -55,8 +54,8 @@ fn is_off_epoch<'a>(
     requires { ⌜ (1 ≤ head .epoch .0) × (head .epoch .0 ≤ 256) × (m < 1024) ⌝ }
     ensures { λ r. ⌜ r ≡ offEpoch (whole head (now (leaders .entry)) [] (now (epochs .entry)) [] [] (now (signers .entry)) (now (subjects .entry)) [] []) m ⌝ }
 {
-    let led = act::leads(head, leaders, signers[m]);
-    let epoch = scan::epoch_at(epochs, head.last.0, subjects[m]);
+    let led = act::leads(head, leaders, scan::entry(signers, m));
+    let epoch = scan::epoch_at(epochs, head.last.0, scan::entry(subjects, m));
     !led | (epoch != head.epoch.0)
 }
 
@@ -107,16 +106,15 @@ fn view_refusal<'a>(
     requires { ⌜ (head .n ≤ 32) × (head .count ≤ 1024) × (trustedIn (head .n) (head .trust) (office .0) ≡ true) × (message .0 < head .count) ⌝ }
     ensures { λ r. ⌜ r ≡ first (since 18 (vote (whole head [] (now (parents .entry)) (now (epochs .entry)) [] [] (now (signers .entry)) (now (subjects .entry)) (now (places .entry)) []) office message .tests)) ⌝ }
 {
-    let q = office.0;
     let at = message.0 as usize;
-    let b = subjects[at];
+    let b = scan::entry(subjects, at);
+    let signer = scan::entry(signers, at);
     let count = head.count as usize;
-    if scan::is_signed(places, signers, subjects, count, q, signers[at], b) {
+    if scan::is_signed(places, signers, subjects, count, office.0, signer, b) {
         return refusal::ENTERED;
     }
-    let last = head.last.0;
-    let parent = scan::parent_at(parents, last, b);
-    let epoch = scan::epoch_at(epochs, last, b);
+    let parent = scan::parent_at(parents, head.last.0, b);
+    let epoch = scan::epoch_at(epochs, head.last.0, b);
     let refusal = act::extend_refusal(
         head,
         parents,
@@ -124,7 +122,7 @@ fn view_refusal<'a>(
         signers,
         subjects,
         places,
-        q,
+        office.0,
         parent,
         epoch,
     );
@@ -197,7 +195,7 @@ fn cast<'a>(
     let at = m as usize;
     let head = still.head;
     let word = sent_place(head, q);
-    let sent = still.sent(true, q, subjects[at], word);
+    let sent = still.sent(true, q, scan::entry(subjects, at), word);
     act::acted(sent.moved(at, raised(places[at], q)), q)
 }
 

@@ -17,8 +17,8 @@ abbrev μ-loop : tie.MeasureT-loop
 loop-holds : tie.Need-loop-holds Inv-loop μ-loop
 loop-holds c = (search needs, refl, gather-none _ _ _ _)
 
-element-copy-out-index : tie.Need-element-copy-out-index Inv-loop μ-loop
-element-copy-out-index c = search needs
+entry-requires : tie.Need-entry-requires Inv-loop μ-loop
+entry-requires c κs = search needs
 
 index-requires : tie.Need-index-requires Inv-loop μ-loop
 index-requires c κs = search needs
@@ -38,8 +38,8 @@ element-copy-out-stage c = search needs
 stage-requires : tie.Need-stage-requires Inv-loop μ-loop
 stage-requires c κs = search needs
 
-element-copy-out-entered : tie.Need-element-copy-out-entered Inv-loop μ-loop
-element-copy-out-entered c = search needs
+entry-requires-2 : tie.Need-entry-requires-2 Inv-loop μ-loop
+entry-requires-2 c κs = search needs
 
 entered-requires : tie.Need-entered-requires Inv-loop μ-loop
 entered-requires c κs = search needs
@@ -65,7 +65,7 @@ loop-again c =
     let index = at-index .index in (
       search needs,
       simp length-set (turn .inv .1),
-      gather-next _ _ _ _ _ (turn .sets) _ _ (turn .inv .1) (index .ensures .0) (index .ensures .1) (turn .inv .2) (c .entered .ensures ∙ rw (at-stage .stage .ensures)),
+      gather-next _ _ _ _ _ (turn .sets) _ _ (turn .inv .1) (index .ensures .0 ∙ at-index .before .entry .ensures) (index .ensures .1) (turn .inv .2) (c .entered .ensures ∙ rw (at-stage .stage .ensures, c .before .entry2 .ensures)),
     )
 
 returns : tie.Need-returns Inv-loop μ-loop
@@ -80,14 +80,14 @@ gather-spec =
     Inv-loop
     μ-loop
     loop-holds
-    element-copy-out-index
+    entry-requires
     index-requires
     mul-entered
     array-read-entered
     mul-stage
     element-copy-out-stage
     stage-requires
-    element-copy-out-entered
+    entry-requires-2
     entered-requires
     mul-sets
     array-write-sets

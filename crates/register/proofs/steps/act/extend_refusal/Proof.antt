@@ -16,7 +16,9 @@ cast-count : tie.Need-cast-count
 cast-count c = search needs
 
 is-longest-requires : tie.Need-is-longest-requires
-is-longest-requires c κs = search needs
+is-longest-requires c κs =
+    let p = c .before .pre in
+    (p .1, p .0, p .3)
 
 returns : tie.Need-returns
 unfolding first choose whole trusted

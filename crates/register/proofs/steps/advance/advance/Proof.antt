@@ -17,19 +17,16 @@ returns : tie.Need-returns
 unfolding answer advance spent first choose whole
 returns c = c .refused .ensures ∙ simp (le-leb _ _ (c .before .if1 .taken))
 
-add-headed : tie.Need-add-headed
-add-headed c = search needs
+add-t6 : tie.Need-add-t6
+add-t6 c = search needs
 
-add-headed-2 : tie.Need-add-headed-2
-add-headed-2 c = search needs
-
-headed-requires : tie.Need-headed-requires
-headed-requires c κs = search needs
+add-still : tie.Need-add-still
+add-still c = search needs
 
 returns-2 : tie.Need-returns-2
 unfolding answer advance spent first choose whole heading nextHead
-returns-2 c = c .headed .ensures ∙ simp (lt-leb _ _ (c .before .if1 .left))
+returns-2 c = simp (lt-leb _ _ (c .if1 .left))
 
 pub advance-spec : {M : Type 1} → statement M
 advance-spec =
-    tie.close (tie.spec refused-requires returns add-headed add-headed-2 headed-requires returns-2)
+    tie.close (tie.spec refused-requires returns add-t6 add-still returns-2)

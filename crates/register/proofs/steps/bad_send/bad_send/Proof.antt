@@ -8,7 +8,7 @@ use Rattle.register.proofs.steps.bad_send.bad_send.Statement.{statement
 use Rattle.register.proofs.steps.bad_send.bad_send.Tie as tie
 
 bad-send-refusal-requires : tie.Need-bad-send-refusal-requires
-bad-send-refusal-requires c κs = search needs
+bad-send-refusal-requires c κs = c .before .pre .1
 
 refused-requires : tie.Need-refused-requires
 refused-requires c κs = search needs
@@ -20,7 +20,7 @@ is-vote-requires : tie.Need-is-vote-requires
 is-vote-requires c κs = search needs
 
 sent-place-requires : tie.Need-sent-place-requires
-sent-place-requires c κs = search needs
+sent-place-requires c κs = c .before .before .before .before .pre .0
 
 sent-requires : tie.Need-sent-requires
 unfolding whole

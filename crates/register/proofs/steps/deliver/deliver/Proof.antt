@@ -8,7 +8,7 @@ use Rattle.register.proofs.steps.deliver.deliver.Statement.{statement}
 use Rattle.register.proofs.steps.deliver.deliver.Tie as tie
 
 deliver-refusal-requires : tie.Need-deliver-refusal-requires
-deliver-refusal-requires c κs = search needs
+deliver-refusal-requires c κs = c .before .pre .1
 
 refused-requires : tie.Need-refused-requires
 refused-requires c κs = search needs

@@ -8,7 +8,7 @@ use Rattle.register.proofs.steps.enter.enter.Statement.{statement}
 use Rattle.register.proofs.steps.enter.enter.Tie as tie
 
 enter-refusal-requires : tie.Need-enter-refusal-requires
-enter-refusal-requires c κs = search needs
+enter-refusal-requires c κs = c .before .pre .1
 
 refused-requires : tie.Need-refused-requires
 refused-requires c κs = search needs

@@ -1,12 +1,13 @@
--- `enter_refusal` makes the tests in their order.
+-- `enter_refusal` makes the tests in their order: past each of them those that are left decide.
 use borrow.Author.Needs.{needs}
-use Prim.Native.Nat.{ℕ}
+use Prim.Native.Nat.{_<_}
 use mathlib.Core.Path.{_≡_, sym, _∙_}
 use mathlib.Core.Bool.{true}
-use mathlib.Core.List.{[]}
+use mathlib.Core.List.{List, []}
+use native.Mathlib.Omega.{arith}
 use borrow.Author.Tests.{not-true, not-false}
 use Rattle.words.specs.Tests.{choose}
-use Rattle.words.specs.Refusals.{first}
+use Rattle.words.specs.Refusals.{Refusal, first, since}
 use Rattle.register.specs.declared.table.Register.{Register}
 use Rattle.register.specs.Tables.{trusted}
 use Rattle.register.specs.Views.{stage}
@@ -17,134 +18,149 @@ use Rattle.register.proofs.Testing.{no-office, an-office, no-message, a
 use Rattle.register.proofs.steps.enter.enter_refusal.Statement.{statement}
 use Rattle.register.proofs.steps.enter.enter_refusal.Tie as tie
 
+-- the register of the numbers and tables that are handed in, and the tests of the step
+unfoldable given : tie.Start → Register
+given s = whole (s .args .head) [] [] [] [] (s .args .votes .now) (s .args .signers .now) (s .args .subjects .now) (s .args .places .now) []
+
+unfoldable tests : tie.Start → List Refusal
+tests s = register (given s) (s .args .office) (s .args .message) .tests
+
+-- the start, from past each of the first five tests
+abbrev start-1 : tie.Else1 → tie.Start
+start-1 c = c .before .before .before
+
+abbrev start-2 : tie.Else2 → tie.Start
+start-2 c = start-1 (c .before .before .before)
+
+abbrev start-3 : tie.Else3 → tie.Start
+start-3 c = start-2 (c .before .before)
+
+abbrev start-4 : tie.Else4 → tie.Start
+start-4 c = start-3 (c .before .before)
+
+abbrev start-5 : tie.Else5 → tie.Start
+start-5 c = start-4 (c .before .before .before)
+
 returns : tie.Need-returns
-unfolding register votes stage trusted first choose whole
+unfolding tests given register first choose whole
 returns c =
-    let r : Register =
-    whole (c .before .before .args .head) [] [] [] [] (c .before .before .args .votes .now) (c .before .before .args .signers .now) (c .before .before .args .subjects .now) (c .before .before .args .places .now) [] in
-    let q : ℕ = c .before .before .args .office .0 in
-    let m : ℕ = c .before .before .args .message .0 in
-    rw (no-office r q (c .if1 .taken))
+    let s = c .before .before .before in
+    let holds : first (tests s) ≡ 6 = rw (no-office (given s) (s .args .office .0) (c .if1 .taken)) in
+    sym holds
+
+past-6 : (c : tie.Else1) → first (tests (start-1 c)) ≡ first (since 8 (tests (start-1 c)))
+unfolding tests given register first since choose whole
+past-6 c = rw (an-office (given (start-1 c)) (start-1 c .args .office .0) (c .if1 .left))
 
 returns-2 : tie.Need-returns-2
-unfolding register votes stage trusted first choose whole
+unfolding tests given register first since choose whole
 returns-2 c =
-    let at-if1 = c .before .before in
-    let entry = at-if1 .before .before in
-    let a = entry .args in
-    let r : Register = whole (a .head) [] [] [] [] (a .votes .now) (a .signers .now) (a .subjects .now) (a .places .now) [] in
-    let q : ℕ = a .office .0 in
-    let m : ℕ = a .message .0 in
-    rw (an-office r q (at-if1 .if1 .left), no-message r m (c .if2 .taken))
+    let s = start-1 (c .before .before .before) in
+    let holds : first (since 8 (tests s)) ≡ 8 = rw (no-message (given s) (s .args .message .0) (c .if2 .taken)) in
+    sym (past-6 (c .before .before .before) ∙ holds)
+
+past-8 : (c : tie.Else2) → first (tests (start-2 c)) ≡ first (since 10 (tests (start-2 c)))
+unfolding tests given register first since choose whole
+past-8 c =
+    let fails : first (since 8 (tests (start-2 c))) ≡ first (since 10 (tests (start-2 c))) = rw (a-message (given (start-2 c)) (start-2 c .args .message .0) (c .if2 .left)) in
+    past-6 (c .before .before .before) ∙ fails
+
+-- the message has been sent, so that its number is one of the tables'
+sent : (c : tie.Else2) → start-2 c .args .message .0 < 1024
+sent c = omega (arith, c .if2 .left, start-2 c .pre)
 
 trusted-at-requires : tie.Need-trusted-at-requires
 trusted-at-requires c κs = search needs
 
 returns-3 : tie.Need-returns-3
-unfolding register votes stage trusted first choose whole
+unfolding tests given register trusted first since choose whole
 returns-3 c =
-    let at-if2 = c .before .before in
-    let at-if1 = at-if2 .before .before in
-    let entry = at-if1 .before .before in
-    let a = entry .args in
-    let r : Register = whole (a .head) [] [] [] [] (a .votes .now) (a .signers .now) (a .subjects .now) (a .places .now) [] in
-    let q : ℕ = a .office .0 in
-    let m : ℕ = a .message .0 in
-    rw (an-office r q (at-if1 .if1 .left), a-message r m (at-if2 .if2 .left), is-barred r q (sym (c .before .trusted-at .ensures) ∙ not-true _ (c .if3 .taken)))
+    let s = start-2 (c .before .before) in
+    let holds : first (since 10 (tests s)) ≡ 10 = rw (is-barred (given s) (s .args .office .0) (sym (c .before .trusted-at .ensures) ∙ not-true _ (c .if3 .taken))) in
+    sym (past-8 (c .before .before) ∙ holds)
+
+-- the office is trusted
+safe : (c : tie.Else3) → trusted (given (start-3 c)) (start-3 c .args .office .0) ≡ true
+unfolding given trusted whole
+safe c = sym (c .before .trusted-at .ensures) ∙ not-false _ (c .if3 .left)
+
+past-10 : (c : tie.Else3) → first (tests (start-3 c)) ≡ first (since 15 (tests (start-3 c)))
+unfolding tests register first since choose
+past-10 c =
+    let fails : first (since 10 (tests (start-3 c))) ≡ first (since 15 (tests (start-3 c))) = rw (not-barred (given (start-3 c)) (start-3 c .args .office .0) (safe c)) in
+    past-8 (c .before .before) ∙ fails
 
 stage-of-requires : tie.Need-stage-of-requires
 stage-of-requires c κs = search needs
 
+-- the message's stage for the office
+found : (c : tie.After-stage-of) → c .stage-of .result ≡ stage (given (start-3 (c .before))) (start-3 (c .before) .args .office .0) (start-3 (c .before) .args .message .0)
+unfolding given stage trusted whole
+found c = c .stage-of .ensures
+
 returns-4 : tie.Need-returns-4
-unfolding register votes stage trusted first choose whole
+unfolding tests given register first since choose whole
 returns-4 c =
-    let at-if3 = c .before .before in
-    let at-trusted-at = at-if3 .before in
-    let at-if2 = at-trusted-at .before in
-    let at-if1 = at-if2 .before .before in
-    let entry = at-if1 .before .before in
-    let a = entry .args in
-    let r : Register = whole (a .head) [] [] [] [] (a .votes .now) (a .signers .now) (a .subjects .now) (a .places .now) [] in
-    let q : ℕ = a .office .0 in
-    let m : ℕ = a .message .0 in
-    let t : trusted r q ≡ true = sym (at-trusted-at .trusted-at .ensures) ∙ not-false _ (at-if3 .if3 .left) in
-    rw (an-office r q (at-if1 .if1 .left), a-message r m (at-if2 .if2 .left), not-barred r q t, not-in-hand r q m (λ e. c .if4 .taken (c .before .stage-of .ensures ∙ e)))
+    let s = start-3 (c .before .before) in
+    let holds : first (since 15 (tests s)) ≡ 15 = rw (not-in-hand (given s) (s .args .office .0) (s .args .message .0) (λ e. c .if4 .taken (found (c .before) ∙ e))) in
+    sym (past-10 (c .before .before) ∙ holds)
+
+past-15 : (c : tie.Else4) → first (tests (start-4 c)) ≡ first (since 16 (tests (start-4 c)))
+unfolding tests register first since choose
+past-15 c =
+    let s = start-4 c in
+    let fails : first (since 15 (tests s)) ≡ first (since 16 (tests s)) = rw (is-in-hand (given s) (s .args .office .0) (s .args .message .0) (sym (found (c .before)) ∙ c .if4 .left)) in
+    past-10 (c .before .before) ∙ fails
 
 cast-at : tie.Need-cast-at
-cast-at c = search needs
+cast-at c = omega (arith, sent (c .before .before .before .before .before))
 
 element-copy-out-if5 : tie.Need-element-copy-out-if5
-element-copy-out-if5 c = search needs
+element-copy-out-if5 c = sent (c .before .before .before .before .before)
 
 returns-5 : tie.Need-returns-5
-unfolding register votes stage trusted first choose whole
+unfolding tests given register votes first since choose whole
 returns-5 c =
-    let at-if4 = c .before .before in
-    let at-stage-of = at-if4 .before in
-    let at-if3 = at-stage-of .before in
-    let at-trusted-at = at-if3 .before in
-    let at-if2 = at-trusted-at .before in
-    let at-if1 = at-if2 .before .before in
-    let entry = at-if1 .before .before in
-    let a = entry .args in
-    let r : Register = whole (a .head) [] [] [] [] (a .votes .now) (a .signers .now) (a .subjects .now) (a .places .now) [] in
-    let q : ℕ = a .office .0 in
-    let m : ℕ = a .message .0 in
-    let t : trusted r q ≡ true = sym (at-trusted-at .trusted-at .ensures) ∙ not-false _ (at-if3 .if3 .left) in
-    let at : stage r q m ≡ 2 = sym (at-stage-of .stage-of .ensures) ∙ at-if4 .if4 .left in
-    rw (an-office r q (at-if1 .if1 .left), a-message r m (at-if2 .if2 .left), not-barred r q t, is-in-hand r q m at, c .if5 .taken)
+    let s = start-4 (c .before .before .before) in
+    let holds : first (since 16 (tests s)) ≡ 16 = rw (c .if5 .taken) in
+    sym (past-15 (c .before .before .before) ∙ holds)
+
+past-16 : (c : tie.Else5) → first (tests (start-5 c)) ≡ first (since 18 (tests (start-5 c)))
+unfolding tests given register votes first since choose whole
+past-16 c =
+    let fails : first (since 16 (tests (start-5 c))) ≡ first (since 18 (tests (start-5 c))) = rw (c .if5 .left) in
+    past-15 (c .before .before .before) ∙ fails
 
 cast-is-signed : tie.Need-cast-is-signed
-cast-is-signed c = search needs
+cast-is-signed c = omega (arith, start-5 (c .before) .pre)
 
-element-copy-out-is-signed : tie.Need-element-copy-out-is-signed
-element-copy-out-is-signed c = search needs
+entry-requires : tie.Need-entry-requires
+entry-requires c κs = sent (c .before .before .before .before .before .before .before .before)
 
-element-copy-out-is-signed-2 : tie.Need-element-copy-out-is-signed-2
-element-copy-out-is-signed-2 c = search needs
+entry-requires-2 : tie.Need-entry-requires-2
+entry-requires-2 c κs = sent (c .before .before .before .before .before .before .before .before .before)
 
 is-signed-requires : tie.Need-is-signed-requires
-is-signed-requires c κs = search needs
+is-signed-requires c κs = start-5 (c .before .before .before) .pre
+
+-- the signature is in the view, or is not, as it was found
+looked : (c : tie.After-is-signed) → entered (given (start-5 (c .before .before .before .before))) (start-5 (c .before .before .before .before) .args .office .0) (start-5 (c .before .before .before .before) .args .message .0) ≡ c .is-signed .result
+unfolding given whole
+looked c =
+    let s = start-5 (c .before .before .before .before) in
+    entered-in (given s) (s .args .office .0) (s .args .message .0) (safe (c .before .before .before .before .before .before .before .before .before)) ∙ sym (c .is-signed .ensures ∙ rw (c .before .before .entry .ensures, c .before .entry2 .ensures))
 
 returns-6 : tie.Need-returns-6
-unfolding register votes stage trusted first choose whole
+unfolding tests given register first since choose whole
 returns-6 c =
-    let at-if5 = c .before .before .before .before .before in
-    let at-if4 = at-if5 .before .before in
-    let at-stage-of = at-if4 .before in
-    let at-if3 = at-stage-of .before in
-    let at-trusted-at = at-if3 .before in
-    let at-if2 = at-trusted-at .before in
-    let at-if1 = at-if2 .before .before in
-    let entry = at-if1 .before .before in
-    let a = entry .args in
-    let r : Register = whole (a .head) [] [] [] [] (a .votes .now) (a .signers .now) (a .subjects .now) (a .places .now) [] in
-    let q : ℕ = a .office .0 in
-    let m : ℕ = a .message .0 in
-    let t : trusted r q ≡ true = sym (at-trusted-at .trusted-at .ensures) ∙ not-false _ (at-if3 .if3 .left) in
-    let at : stage r q m ≡ 2 = sym (at-stage-of .stage-of .ensures) ∙ at-if4 .if4 .left in
-    let e : entered r q m ≡ c .before .is-signed .result = entered-in r q m t ∙ sym (c .before .is-signed .ensures) in
-    rw (an-office r q (at-if1 .if1 .left), a-message r m (at-if2 .if2 .left), not-barred r q t, is-in-hand r q m at, at-if5 .if5 .left, e, c .if6 .taken)
+    let holds : first (since 18 (tests (start-5 (c .before .before .before .before .before)))) ≡ 18 = rw (looked (c .before) ∙ c .if6 .taken) in
+    sym (past-16 (c .before .before .before .before .before) ∙ holds)
 
 returns-7 : tie.Need-returns-7
-unfolding register votes stage trusted first choose whole
+unfolding tests given register first since choose whole
 returns-7 c =
-    let at-if5 = c .before .before .before .before .before in
-    let at-if4 = at-if5 .before .before in
-    let at-stage-of = at-if4 .before in
-    let at-if3 = at-stage-of .before in
-    let at-trusted-at = at-if3 .before in
-    let at-if2 = at-trusted-at .before in
-    let at-if1 = at-if2 .before .before in
-    let entry = at-if1 .before .before in
-    let a = entry .args in
-    let r : Register = whole (a .head) [] [] [] [] (a .votes .now) (a .signers .now) (a .subjects .now) (a .places .now) [] in
-    let q : ℕ = a .office .0 in
-    let m : ℕ = a .message .0 in
-    let t : trusted r q ≡ true = sym (at-trusted-at .trusted-at .ensures) ∙ not-false _ (at-if3 .if3 .left) in
-    let at : stage r q m ≡ 2 = sym (at-stage-of .stage-of .ensures) ∙ at-if4 .if4 .left in
-    let e : entered r q m ≡ c .before .is-signed .result = entered-in r q m t ∙ sym (c .before .is-signed .ensures) in
-    rw (an-office r q (at-if1 .if1 .left), a-message r m (at-if2 .if2 .left), not-barred r q t, is-in-hand r q m at, at-if5 .if5 .left, e, c .if6 .left)
+    let fails : first (since 18 (tests (start-5 (c .before .before .before .before .before)))) ≡ 0 = rw (looked (c .before) ∙ c .if6 .left) in
+    sym (past-16 (c .before .before .before .before .before) ∙ fails)
 
 pub enter-refusal-spec : {M : Type 1} → statement M
 enter-refusal-spec =
@@ -160,8 +176,8 @@ enter-refusal-spec =
     element-copy-out-if5
     returns-5
     cast-is-signed
-    element-copy-out-is-signed
-    element-copy-out-is-signed-2
+    entry-requires
+    entry-requires-2
     is-signed-requires
     returns-6
     returns-7)

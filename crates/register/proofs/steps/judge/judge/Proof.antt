@@ -1,17 +1,44 @@
 -- `judge`: a register whose single numbers do not fit gets 5, and each step its own change, by the laws of proofs/Judgements.antt.
 use borrow.Author.Needs.{needs}
+use Prim.Native.Nat.{_≤_}
 use mathlib.Core.Path.{_≡_, sym, _∙_, subst⁻¹}
 use mathlib.Core.Bool.{true}
 use native.Mathlib.Omega.{arith}
 use borrow.Author.Tests.{not-true, not-false}
+use Rattle.register.specs.declared.change.Change.{Change}
 use Rattle.register.specs.declared.step.Step.{Step}
 use Rattle.register.specs.declared.table.Register.{Register}
 use Rattle.register.specs.Fitness.{countsFit}
 use Rattle.register.specs.Changes.{whole, headOf, stillOf, Judged}
 use Rattle.register.proofs.FitnessLaws.{Counts}
-use Rattle.register.proofs.Judgements.{still-counts, judged-unfit, judged-propose, judged-vote, judged-register, judged-finalise, judged-deliver, judged-bad-send, judged-draft, judged-advance}
+use Rattle.register.proofs.Judgements.{still-counts, still-last, judged-unfit, judged-propose, judged-vote, judged-register, judged-finalise, judged-deliver, judged-bad-send, judged-draft, judged-advance}
 use Rattle.register.proofs.steps.judge.judge.Statement.{statement}
 use Rattle.register.proofs.steps.judge.judge.Tie as tie
+
+-- the register of the numbers and tables that are handed in
+unfoldable given : tie.Start → Register
+given s = whole (s .args .head) (s .args .leaders .now) (s .args .parents .now) (s .args .epochs .now) (s .args .payloads .now) (s .args .votes .now) (s .args .signers .now) (s .args .subjects .now) (s .args .places .now) (s .args .finals .now)
+
+-- the change that leaves it as it is
+abbrev still : tie.After-unchanged → Change
+still c = c .unchanged .result
+
+is-still : (c : tie.After-unchanged) → still c ≡ stillOf (given (c .before))
+unfolding given whole stillOf headOf
+is-still c = c .unchanged .ensures
+
+-- past the first test its single numbers fit
+fits : (c : tie.Else1) → countsFit (given (c .before .before .before)) ≡ true
+unfolding given countsFit whole
+fits c = sym (c .before .counts-fit .ensures .0) ∙ not-false _ (c .if1 .left)
+
+counts : (c : tie.Else1) → Counts (still (c .before .before) .head .n) (still (c .before .before) .head .length) (still (c .before .before) .head .epoch .0) (still (c .before .before) .head .count)
+counts c = still-counts (given (c .before .before .before)) (still (c .before .before)) (fits c) (is-still (c .before .before))
+
+-- and the last block has a number below 256
+small : (c : tie.After-counts-fit) → given (c .before .before) .last .0 ≤ 255
+unfolding given whole
+small c = c .counts-fit .ensures .1
 
 unchanged-requires : tie.Need-unchanged-requires
 unchanged-requires c κs = search needs
@@ -23,243 +50,150 @@ refused-requires : tie.Need-refused-requires
 refused-requires c κs = search needs
 
 returns : tie.Need-returns
-unfolding countsFit whole stillOf headOf
+unfolding given countsFit whole
 returns c =
     let at-counts-fit = c .before .before in
-    let at-unchanged = at-counts-fit .before in
-    let entry = at-unchanged .before in
-    let a = entry .args in
-    let r : Register = whole (a .head) (a .leaders .now) (a .parents .now) (a .epochs .now) (a .payloads .now) (a .votes .now) (a .signers .now) (a .subjects .now) (a .places .now) (a .finals .now) in
-    judged-unfit r (a .step) _ _ (sym (at-counts-fit .counts-fit .ensures) ∙ not-true _ (c .before .if1 .taken)) (at-unchanged .unchanged .ensures) (c .refused .ensures)
+    judged-unfit (given (at-counts-fit .before .before)) _ (still (at-counts-fit .before)) _ (sym (at-counts-fit .counts-fit .ensures .0) ∙ not-true _ (c .before .if1 .taken)) (is-still (at-counts-fit .before)) (c .refused .ensures)
 
 enum-known-step : tie.Need-enum-known-step
 enum-known-step c = search needs
 
 propose-requires : tie.Need-propose-requires
-unfolding countsFit whole stillOf headOf
 propose-requires c κs =
     let at-if1 = c .before .before .before in
-    let at-counts-fit = at-if1 .before in
-    let at-unchanged = at-counts-fit .before in
-    let entry = at-unchanged .before in
-    let a = entry .args in
-    let r : Register = whole (a .head) (a .leaders .now) (a .parents .now) (a .epochs .now) (a .payloads .now) (a .votes .now) (a .signers .now) (a .subjects .now) (a .places .now) (a .finals .now) in
-    let fits : countsFit r ≡ true = sym (at-counts-fit .counts-fit .ensures) ∙ not-false _ (at-if1 .if1 .left) in
-    let k : Counts _ _ _ _ = still-counts r _ fits (at-unchanged .unchanged .ensures) in
-    (k .offices .1, k .messages, k .current .0, omega (arith, k .current .1, k .schedule .1))
+    let k = counts at-if1 in
+    let at-counts-fit = at-if1 .before in (
+      k .offices .1,
+      k .messages,
+      k .current .0,
+      omega (arith, k .current .1, k .schedule .1),
+      still-last (given (at-counts-fit .before .before)) _ (small at-counts-fit) (is-still (at-counts-fit .before)),
+    )
 
 enum-known-step-2 : tie.Need-enum-known-step-2
 enum-known-step-2 c = search needs
 
 vote-requires : tie.Need-vote-requires
-unfolding countsFit whole stillOf headOf
 vote-requires c κs =
-    let at-if1 = c .before .before .before in
-    let at-counts-fit = at-if1 .before in
-    let at-unchanged = at-counts-fit .before in
-    let entry = at-unchanged .before in
-    let a = entry .args in
-    let r : Register = whole (a .head) (a .leaders .now) (a .parents .now) (a .epochs .now) (a .payloads .now) (a .votes .now) (a .signers .now) (a .subjects .now) (a .places .now) (a .finals .now) in
-    let fits : countsFit r ≡ true = sym (at-counts-fit .counts-fit .ensures) ∙ not-false _ (at-if1 .if1 .left) in
-    let k : Counts _ _ _ _ = still-counts r _ fits (at-unchanged .unchanged .ensures) in
+    let k = counts (c .before .before .before) in
     (k .offices .1, k .messages, k .current .0, omega (arith, k .current .1, k .schedule .1))
 
 enum-known-step-3 : tie.Need-enum-known-step-3
 enum-known-step-3 c = search needs
 
 enter-requires : tie.Need-enter-requires
-unfolding countsFit whole stillOf headOf
 enter-requires c κs =
-    let at-if1 = c .before .before .before in
-    let at-counts-fit = at-if1 .before in
-    let at-unchanged = at-counts-fit .before in
-    let entry = at-unchanged .before in
-    let a = entry .args in
-    let r : Register = whole (a .head) (a .leaders .now) (a .parents .now) (a .epochs .now) (a .payloads .now) (a .votes .now) (a .signers .now) (a .subjects .now) (a .places .now) (a .finals .now) in
-    let fits : countsFit r ≡ true = sym (at-counts-fit .counts-fit .ensures) ∙ not-false _ (at-if1 .if1 .left) in
-    let k : Counts _ _ _ _ = still-counts r _ fits (at-unchanged .unchanged .ensures) in
+    let k = counts (c .before .before .before) in
     (k .offices .1, k .messages)
 
 enum-known-step-4 : tie.Need-enum-known-step-4
 enum-known-step-4 c = search needs
 
 finalise-requires : tie.Need-finalise-requires
-unfolding countsFit whole stillOf headOf
 finalise-requires c κs =
-    let at-if1 = c .before .before .before in
-    let at-counts-fit = at-if1 .before in
-    let at-unchanged = at-counts-fit .before in
-    let entry = at-unchanged .before in
-    let a = entry .args in
-    let r : Register = whole (a .head) (a .leaders .now) (a .parents .now) (a .epochs .now) (a .payloads .now) (a .votes .now) (a .signers .now) (a .subjects .now) (a .places .now) (a .finals .now) in
-    let fits : countsFit r ≡ true = sym (at-counts-fit .counts-fit .ensures) ∙ not-false _ (at-if1 .if1 .left) in
-    let k : Counts _ _ _ _ = still-counts r _ fits (at-unchanged .unchanged .ensures) in
+    let k = counts (c .before .before .before) in
     (k .offices .1, k .messages)
 
 enum-known-step-5 : tie.Need-enum-known-step-5
 enum-known-step-5 c = search needs
 
 deliver-requires : tie.Need-deliver-requires
-unfolding countsFit whole stillOf headOf
 deliver-requires c κs =
-    let at-if1 = c .before .before .before in
-    let at-counts-fit = at-if1 .before in
-    let at-unchanged = at-counts-fit .before in
-    let entry = at-unchanged .before in
-    let a = entry .args in
-    let r : Register = whole (a .head) (a .leaders .now) (a .parents .now) (a .epochs .now) (a .payloads .now) (a .votes .now) (a .signers .now) (a .subjects .now) (a .places .now) (a .finals .now) in
-    let fits : countsFit r ≡ true = sym (at-counts-fit .counts-fit .ensures) ∙ not-false _ (at-if1 .if1 .left) in
-    let k : Counts _ _ _ _ = still-counts r _ fits (at-unchanged .unchanged .ensures) in
+    let k = counts (c .before .before .before) in
     (k .offices .1, k .messages)
 
 enum-known-step-6 : tie.Need-enum-known-step-6
 enum-known-step-6 c = search needs
 
 bad-send-requires : tie.Need-bad-send-requires
-unfolding countsFit whole stillOf headOf
 bad-send-requires c κs =
-    let at-if1 = c .before .before .before in
-    let at-counts-fit = at-if1 .before in
-    let at-unchanged = at-counts-fit .before in
-    let entry = at-unchanged .before in
-    let a = entry .args in
-    let r : Register = whole (a .head) (a .leaders .now) (a .parents .now) (a .epochs .now) (a .payloads .now) (a .votes .now) (a .signers .now) (a .subjects .now) (a .places .now) (a .finals .now) in
-    let fits : countsFit r ≡ true = sym (at-counts-fit .counts-fit .ensures) ∙ not-false _ (at-if1 .if1 .left) in
-    let k : Counts _ _ _ _ = still-counts r _ fits (at-unchanged .unchanged .ensures) in
+    let k = counts (c .before .before .before) in
     (k .offices .1, k .messages)
 
 enum-known-step-7 : tie.Need-enum-known-step-7
 enum-known-step-7 c = search needs
 
 draft-requires : tie.Need-draft-requires
-draft-requires c κs = search needs
+draft-requires c κs =
+    let at-counts-fit = c .before .before .before .before in
+    still-last (given (at-counts-fit .before .before)) _ (small at-counts-fit) (is-still (at-counts-fit .before))
 
 enum-told : tie.Need-enum-told
 enum-told c = search needs
 
 advance-requires : tie.Need-advance-requires
-unfolding countsFit whole stillOf headOf
-advance-requires c κs =
-    let at-if1 = c .before .before in
-    let at-counts-fit = at-if1 .before in
-    let at-unchanged = at-counts-fit .before in
-    let entry = at-unchanged .before in
-    let a = entry .args in
-    let r : Register = whole (a .head) (a .leaders .now) (a .parents .now) (a .epochs .now) (a .payloads .now) (a .votes .now) (a .signers .now) (a .subjects .now) (a .places .now) (a .finals .now) in
-    let fits : countsFit r ≡ true = sym (at-counts-fit .counts-fit .ensures) ∙ not-false _ (at-if1 .if1 .left) in
-    let k : Counts _ _ _ _ = still-counts r _ fits (at-unchanged .unchanged .ensures) in
-    k .schedule .1
+advance-requires c κs = counts (c .before .before) .schedule .1
 
 returns-2 : tie.Need-returns-2
-unfolding countsFit whole stillOf headOf
+unfolding given whole
 returns-2 c =
     let at-step = c .before .before in
     let at-if1 = at-step .before .before in
-    let at-counts-fit = at-if1 .before in
-    let at-unchanged = at-counts-fit .before in
-    let entry = at-unchanged .before in
-    let a = entry .args in
-    let r : Register = whole (a .head) (a .leaders .now) (a .parents .now) (a .epochs .now) (a .payloads .now) (a .votes .now) (a .signers .now) (a .subjects .now) (a .places .now) (a .finals .now) in
-    let fits : countsFit r ≡ true = sym (at-counts-fit .counts-fit .ensures) ∙ not-false _ (at-if1 .if1 .left) in
-    subst⁻¹ (λ (s : Step). Judged r s (c .propose .result)) (at-step .step .given .1)
-    (judged-propose r _ _ _ _ _ fits (entry .pre) (at-unchanged .unchanged .ensures) (c .propose .ensures))
+    let at-unchanged = at-if1 .before .before in
+    subst⁻¹ (λ (s : Step). Judged (given (at-unchanged .before)) s (c .propose .result)) (at-step .step .given .1)
+    (judged-propose (given (at-unchanged .before)) _ _ _ (still at-unchanged) _ (fits at-if1) (small (at-if1 .before)) (is-still at-unchanged) (c .propose .ensures))
 
 returns-3 : tie.Need-returns-3
-unfolding countsFit whole stillOf headOf
+unfolding given whole
 returns-3 c =
-    let at-step2 = c .before .before in
-    let at-if1 = at-step2 .before .before in
-    let at-counts-fit = at-if1 .before in
-    let at-unchanged = at-counts-fit .before in
-    let entry = at-unchanged .before in
-    let a = entry .args in
-    let r : Register = whole (a .head) (a .leaders .now) (a .parents .now) (a .epochs .now) (a .payloads .now) (a .votes .now) (a .signers .now) (a .subjects .now) (a .places .now) (a .finals .now) in
-    let fits : countsFit r ≡ true = sym (at-counts-fit .counts-fit .ensures) ∙ not-false _ (at-if1 .if1 .left) in
-    subst⁻¹ (λ (s : Step). Judged r s (c .vote .result)) (at-step2 .step2 .given .1)
-    (judged-vote r _ _ _ _ fits (at-unchanged .unchanged .ensures) (c .vote .ensures))
+    let at-step = c .before .before in
+    let at-if1 = at-step .before .before in
+    let at-unchanged = at-if1 .before .before in
+    subst⁻¹ (λ (s : Step). Judged (given (at-unchanged .before)) s (c .vote .result)) (at-step .step2 .given .1)
+    (judged-vote (given (at-unchanged .before)) _ _ (still at-unchanged) _ (fits at-if1) (is-still at-unchanged) (c .vote .ensures))
 
 returns-4 : tie.Need-returns-4
-unfolding countsFit whole stillOf headOf
+unfolding given whole
 returns-4 c =
-    let at-step3 = c .before .before in
-    let at-if1 = at-step3 .before .before in
-    let at-counts-fit = at-if1 .before in
-    let at-unchanged = at-counts-fit .before in
-    let entry = at-unchanged .before in
-    let a = entry .args in
-    let r : Register = whole (a .head) (a .leaders .now) (a .parents .now) (a .epochs .now) (a .payloads .now) (a .votes .now) (a .signers .now) (a .subjects .now) (a .places .now) (a .finals .now) in
-    let fits : countsFit r ≡ true = sym (at-counts-fit .counts-fit .ensures) ∙ not-false _ (at-if1 .if1 .left) in
-    subst⁻¹ (λ (s : Step). Judged r s (c .enter .result)) (at-step3 .step3 .given .1)
-    (judged-register r _ _ _ _ fits (at-unchanged .unchanged .ensures) (c .enter .ensures))
+    let at-step = c .before .before in
+    let at-if1 = at-step .before .before in
+    let at-unchanged = at-if1 .before .before in
+    subst⁻¹ (λ (s : Step). Judged (given (at-unchanged .before)) s (c .enter .result)) (at-step .step3 .given .1)
+    (judged-register (given (at-unchanged .before)) _ _ (still at-unchanged) _ (fits at-if1) (is-still at-unchanged) (c .enter .ensures))
 
 returns-5 : tie.Need-returns-5
-unfolding countsFit whole stillOf headOf
+unfolding given whole
 returns-5 c =
-    let at-step4 = c .before .before in
-    let at-if1 = at-step4 .before .before in
-    let at-counts-fit = at-if1 .before in
-    let at-unchanged = at-counts-fit .before in
-    let entry = at-unchanged .before in
-    let a = entry .args in
-    let r : Register = whole (a .head) (a .leaders .now) (a .parents .now) (a .epochs .now) (a .payloads .now) (a .votes .now) (a .signers .now) (a .subjects .now) (a .places .now) (a .finals .now) in
-    let fits : countsFit r ≡ true = sym (at-counts-fit .counts-fit .ensures) ∙ not-false _ (at-if1 .if1 .left) in
-    subst⁻¹ (λ (s : Step). Judged r s (c .finalise .result)) (at-step4 .step4 .given .1)
-    (judged-finalise r _ _ _ _ fits (at-unchanged .unchanged .ensures) (c .finalise .ensures))
+    let at-step = c .before .before in
+    let at-if1 = at-step .before .before in
+    let at-unchanged = at-if1 .before .before in
+    subst⁻¹ (λ (s : Step). Judged (given (at-unchanged .before)) s (c .finalise .result)) (at-step .step4 .given .1)
+    (judged-finalise (given (at-unchanged .before)) _ _ (still at-unchanged) _ (fits at-if1) (is-still at-unchanged) (c .finalise .ensures))
 
 returns-6 : tie.Need-returns-6
-unfolding countsFit whole stillOf headOf
+unfolding given whole
 returns-6 c =
-    let at-step5 = c .before .before in
-    let at-if1 = at-step5 .before .before in
-    let at-counts-fit = at-if1 .before in
-    let at-unchanged = at-counts-fit .before in
-    let entry = at-unchanged .before in
-    let a = entry .args in
-    let r : Register = whole (a .head) (a .leaders .now) (a .parents .now) (a .epochs .now) (a .payloads .now) (a .votes .now) (a .signers .now) (a .subjects .now) (a .places .now) (a .finals .now) in
-    let fits : countsFit r ≡ true = sym (at-counts-fit .counts-fit .ensures) ∙ not-false _ (at-if1 .if1 .left) in
-    subst⁻¹ (λ (s : Step). Judged r s (c .deliver .result)) (at-step5 .step5 .given .1)
-    (judged-deliver r _ _ _ _ fits (at-unchanged .unchanged .ensures) (c .deliver .ensures))
+    let at-step = c .before .before in
+    let at-if1 = at-step .before .before in
+    let at-unchanged = at-if1 .before .before in
+    subst⁻¹ (λ (s : Step). Judged (given (at-unchanged .before)) s (c .deliver .result)) (at-step .step5 .given .1)
+    (judged-deliver (given (at-unchanged .before)) _ _ (still at-unchanged) _ (fits at-if1) (is-still at-unchanged) (c .deliver .ensures))
 
 returns-7 : tie.Need-returns-7
-unfolding countsFit whole stillOf headOf
+unfolding given whole
 returns-7 c =
-    let at-step6 = c .before .before in
-    let at-if1 = at-step6 .before .before in
-    let at-counts-fit = at-if1 .before in
-    let at-unchanged = at-counts-fit .before in
-    let entry = at-unchanged .before in
-    let a = entry .args in
-    let r : Register = whole (a .head) (a .leaders .now) (a .parents .now) (a .epochs .now) (a .payloads .now) (a .votes .now) (a .signers .now) (a .subjects .now) (a .places .now) (a .finals .now) in
-    let fits : countsFit r ≡ true = sym (at-counts-fit .counts-fit .ensures) ∙ not-false _ (at-if1 .if1 .left) in
-    subst⁻¹ (λ (s : Step). Judged r s (c .bad-send .result)) (at-step6 .step6 .given .1)
-    (judged-bad-send r _ _ _ _ _ _ fits (at-unchanged .unchanged .ensures) (c .bad-send .ensures))
+    let at-step = c .before .before in
+    let at-if1 = at-step .before .before in
+    let at-unchanged = at-if1 .before .before in
+    subst⁻¹ (λ (s : Step). Judged (given (at-unchanged .before)) s (c .bad-send .result)) (at-step .step6 .given .1)
+    (judged-bad-send (given (at-unchanged .before)) _ _ _ _ (still at-unchanged) _ (fits at-if1) (is-still at-unchanged) (c .bad-send .ensures))
 
 returns-8 : tie.Need-returns-8
-unfolding countsFit whole stillOf headOf
+unfolding given whole
 returns-8 c =
-    let at-step7 = c .before .before in
-    let at-if1 = at-step7 .before .before in
-    let at-counts-fit = at-if1 .before in
-    let at-unchanged = at-counts-fit .before in
-    let entry = at-unchanged .before in
-    let a = entry .args in
-    let r : Register = whole (a .head) (a .leaders .now) (a .parents .now) (a .epochs .now) (a .payloads .now) (a .votes .now) (a .signers .now) (a .subjects .now) (a .places .now) (a .finals .now) in
-    let fits : countsFit r ≡ true = sym (at-counts-fit .counts-fit .ensures) ∙ not-false _ (at-if1 .if1 .left) in
-    subst⁻¹ (λ (s : Step). Judged r s (c .draft .result)) (at-step7 .step7 .given .1)
-    (judged-draft r _ _ _ _ _ fits (entry .pre) (at-unchanged .unchanged .ensures) (c .draft .ensures))
+    let at-step = c .before .before in
+    let at-if1 = at-step .before .before in
+    let at-unchanged = at-if1 .before .before in
+    subst⁻¹ (λ (s : Step). Judged (given (at-unchanged .before)) s (c .draft .result)) (at-step .step7 .given .1)
+    (judged-draft (given (at-unchanged .before)) _ _ _ (still at-unchanged) _ (fits at-if1) (small (at-if1 .before)) (is-still at-unchanged) (c .draft .ensures))
 
 returns-9 : tie.Need-returns-9
-unfolding countsFit whole stillOf headOf
+unfolding given whole
 returns-9 c =
     let at-if1 = c .before .before .before in
-    let at-counts-fit = at-if1 .before in
-    let at-unchanged = at-counts-fit .before in
-    let entry = at-unchanged .before in
-    let a = entry .args in
-    let r : Register = whole (a .head) (a .leaders .now) (a .parents .now) (a .epochs .now) (a .payloads .now) (a .votes .now) (a .signers .now) (a .subjects .now) (a .places .now) (a .finals .now) in
-    let fits : countsFit r ≡ true = sym (at-counts-fit .counts-fit .ensures) ∙ not-false _ (at-if1 .if1 .left) in
-    subst⁻¹ (λ (s : Step). Judged r s (c .advance .result)) (c .before .enum-told .given .1)
-    (judged-advance r _ _ fits (at-unchanged .unchanged .ensures) (c .advance .ensures))
+    let at-unchanged = at-if1 .before .before in
+    subst⁻¹ (λ (s : Step). Judged (given (at-unchanged .before)) s (c .advance .result)) (c .before .enum-told .given .1)
+    (judged-advance (given (at-unchanged .before)) (still at-unchanged) _ (fits at-if1) (is-still at-unchanged) (c .advance .ensures))
 
 pub judge-spec : {M : Type 1} → statement M
 judge-spec =

@@ -5,32 +5,29 @@ use Rattle.register.specs.Changes.{whole, headOf, stillOf}
 use Rattle.register.proofs.steps.judge.unchanged.Statement.{statement}
 use Rattle.register.proofs.steps.judge.unchanged.Tie as tie
 
-element-copy-out-t14 : tie.Need-element-copy-out-t14
-element-copy-out-t14 c = search needs
+element-copy-out-t15 : tie.Need-element-copy-out-t15
+element-copy-out-t15 c = search needs
 
-element-copy-out-t17 : tie.Need-element-copy-out-t17
-element-copy-out-t17 c = search needs
+element-copy-out-t18 : tie.Need-element-copy-out-t18
+element-copy-out-t18 c = search needs
 
-element-copy-out-t20 : tie.Need-element-copy-out-t20
-element-copy-out-t20 c = search needs
+element-copy-out-t21 : tie.Need-element-copy-out-t21
+element-copy-out-t21 c = search needs
 
-element-copy-out-t23 : tie.Need-element-copy-out-t23
-element-copy-out-t23 c = search needs
+element-copy-out-place : tie.Need-element-copy-out-place
+element-copy-out-place c = search needs
 
-element-copy-out-t14-2 : tie.Need-element-copy-out-t14-2
-element-copy-out-t14-2 c = search needs
+element-copy-out-t27 : tie.Need-element-copy-out-t27
+element-copy-out-t27 c = search needs
 
-element-copy-out-t28 : tie.Need-element-copy-out-t28
-element-copy-out-t28 c = search needs
+element-copy-out-t15-2 : tie.Need-element-copy-out-t15-2
+element-copy-out-t15-2 c = search needs
 
-element-copy-out-t31 : tie.Need-element-copy-out-t31
-element-copy-out-t31 c = search needs
+element-copy-out-t32 : tie.Need-element-copy-out-t32
+element-copy-out-t32 c = search needs
 
-element-copy-out-t31-2 : tie.Need-element-copy-out-t31-2
-element-copy-out-t31-2 c = search needs
-
-element-copy-out-t14-3 : tie.Need-element-copy-out-t14-3
-element-copy-out-t14-3 c = search needs
+element-copy-out-t15-3 : tie.Need-element-copy-out-t15-3
+element-copy-out-t15-3 c = search needs
 
 returns : tie.Need-returns
 unfolding stillOf headOf whole
@@ -40,13 +37,12 @@ pub unchanged-spec : {M : Type 1} → statement M
 unchanged-spec =
     tie.close
     (tie.spec
-    element-copy-out-t14
-    element-copy-out-t17
-    element-copy-out-t20
-    element-copy-out-t23
-    element-copy-out-t14-2
-    element-copy-out-t28
-    element-copy-out-t31
-    element-copy-out-t31-2
-    element-copy-out-t14-3
+    element-copy-out-t15
+    element-copy-out-t18
+    element-copy-out-t21
+    element-copy-out-place
+    element-copy-out-t27
+    element-copy-out-t15-2
+    element-copy-out-t32
+    element-copy-out-t15-3
     returns)

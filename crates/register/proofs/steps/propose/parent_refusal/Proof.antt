@@ -1,5 +1,4 @@
 -- `parent_refusal` joins the tests of the office and those of the parent.
-use borrow.Author.Needs.{needs}
 use mathlib.Core.Path.{_≡_, refl, sym, _∙_}
 use mathlib.Core.List.{List, []}
 use Rattle.words.specs.Tests.{choose, both}
@@ -17,7 +16,7 @@ use Rattle.register.proofs.steps.propose.parent_refusal.Statement.{stat
 use Rattle.register.proofs.steps.propose.parent_refusal.Tie as tie
 
 leader-refusal-requires : tie.Need-leader-refusal-requires
-leader-refusal-requires c κs = search needs
+leader-refusal-requires c κs = (c .pre .2, c .pre .3)
 
 returns : tie.Need-returns
 unfolding propose noOffice noBlock barred trusted acted leads leaderOf until choose whole

@@ -31,110 +31,92 @@ unnamed : (head : Head) (leaders parents epochs payloads signers subjects places
 unfolding propose until choose whole noOffice noBlock barred trusted acted leads leaderOf notLongest longest longer chainNotarised valid chain chainLength parentOf epochOf notarised signers signed inView stage says
 unnamed head leaders parents epochs payloads signers subjects places office parent w = refl
 
+-- the register of the numbers and tables that are handed in, and the tests of the proposal
+unfoldable given : tie.Start → Register
+given s = whole (s .args .still .head) (s .args .leaders .now) (s .args .parents .now) (s .args .epochs .now) (s .args .payloads .now) [] (s .args .signers .now) (s .args .subjects .now) (s .args .places .now) []
+
+unfoldable tests : tie.Start → List Refusal
+tests s = propose (given s) (s .args .office) (s .args .parent) (s .args .payload) .tests
+
 parent-refusal-requires : tie.Need-parent-refusal-requires
-parent-refusal-requires c κs = search needs
+parent-refusal-requires c κs =
+    let p = c .before .pre in
+    (p .0, p .1, p .2, p .3)
+
+-- the tests up to 20
+early : (c : tie.After-parent-refusal) → c .parent-refusal .result ≡ first (until 25 (tests (c .before .before)))
+unfolding tests given
+early c = c .parent-refusal .ensures ∙ unnamed _ _ _ _ _ _ _ _ _ _ _
 
 refused-requires : tie.Need-refused-requires
 refused-requires c κs = search needs
 
 returns : tie.Need-returns
+unfolding tests given
 returns c =
-    let at-parent-refusal = c .before .before in
-    let entry = at-parent-refusal .before .before in
-    let a = entry .args in
-    let r : Register = whole (a .still .head) (a .leaders .now) (a .parents .now) (a .epochs .now) (a .payloads .now) [] (a .signers .now) (a .subjects .now) (a .places .now) [] in
-    let tests : List Refusal = propose r (a .office) (a .parent) (a .payload) .tests in
-    let early : at-parent-refusal .parent-refusal .result ≡ first (until 25 tests) = at-parent-refusal .parent-refusal .ensures ∙ unnamed _ _ _ _ _ _ _ _ _ _ _ in
-    c .refused .ensures ∙ answer-refused _ _ _ _ (early ∙ sym (first-early 25 tests (λ none. c .before .if1 .taken (early ∙ none)))) (c .before .if1 .taken)
+    let at-early = c .before .before in
+    c .refused .ensures ∙ answer-refused _ _ _ _ (early at-early ∙ sym (first-early 25 (tests (at-early .before .before)) (λ none. c .before .if1 .taken (early at-early ∙ none)))) (c .before .if1 .taken)
 
-block-number-requires : tie.Need-block-number-requires
-block-number-requires c κs = search needs
+-- past them the tests from 25 on decide
+late : (c : tie.Else1) → first (tests (c .before .before .before)) ≡ first (since 25 (tests (c .before .before .before)))
+unfolding tests propose positive both
+late c = first-late 25 (tests (c .before .before .before)) refl (sym (early (c .before)) ∙ c .if1 .left)
 
 name-block-requires : tie.Need-name-block-requires
 name-block-requires c κs = search needs
+
+-- the block that is named
+block : (c : tie.After-name-block)
+    → c .name-block .result
+    ≡ named (given (c .before .before .before .before)) (c .before .before .before .before .args .parent .0) (c .before .before .before .before .args .still .head .epoch .0) (c .before .before .before .before .args .payload)
+unfolding given whole named
+block c = c .name-block .ensures
 
 refused-requires-2 : tie.Need-refused-requires-2
 refused-requires-2 c κs = search needs
 
 returns-2 : tie.Need-returns-2
-unfolding answer propose first since choose whole named positive both
+unfolding answer tests given propose first since choose whole
 returns-2 c =
-    let at-name-block = c .before .before in
-    let at-block-number = at-name-block .before in
-    let at-if1 = at-block-number .before in
-    let at-parent-refusal = at-if1 .before in
-    let entry = at-parent-refusal .before .before in
-    let a = entry .args in
-    let p : ℕ = a .parent .0 in
-    let e : ℕ = a .still .head .epoch .0 in
-    let w : ℕ = a .payload in
-    let r : Register = whole (a .still .head) (a .leaders .now) (a .parents .now) (a .epochs .now) (a .payloads .now) [] (a .signers .now) (a .subjects .now) (a .places .now) [] in
-    let tests : List Refusal = propose r (a .office) (a .parent) w .tests in
-    let early : at-parent-refusal .parent-refusal .result ≡ first (until 25 tests) = at-parent-refusal .parent-refusal .ensures ∙ unnamed _ _ _ _ _ _ _ _ _ _ _ in
-    let rest : first tests ≡ first (since 25 tests) = first-late 25 tests refl (sym early ∙ at-if1 .if1 .left) in
-    let last : at-block-number .block-number .result ≡ r .last .0 = at-block-number .block-number .ensures .0 in
-    let b : at-name-block .name-block .result ≡ named r p e w = rw last at (at-name-block .name-block .ensures) in
-    let full : blocksFull r p e w ≡ true = is-full r p e w _ b (at-block-number .block-number .ensures .1) (c .before .if2 .taken) in
-    c .refused2 .ensures ∙ rw (rest, full)
+    let at-block = c .before .before in
+    let s = at-block .before .before .before .before in
+    let full : blocksFull (given s) _ _ _ ≡ true = is-full (given s) _ _ _ _ (block at-block) (s .pre .4) (c .before .if2 .taken) in
+    c .refused2 .ensures ∙ rw (late (at-block .before), full)
+
+-- the tables have room for it
+room : (c : tie.Else2)
+    → blocksFull (given (c .before .before .before .before .before)) (c .before .before .before .before .before .args .parent .0) (c .before .before .before .before .before .args .still .head .epoch .0) (c .before .before .before .before .before .args .payload)
+    ≡ false
+room c = not-full (given (c .before .before .before .before .before)) _ _ _ _ (block (c .before)) (c .if2 .left)
 
 refused-requires-3 : tie.Need-refused-requires-3
 refused-requires-3 c κs = search needs
 
 returns-3 : tie.Need-returns-3
-unfolding answer propose first since choose whole named positive both
+unfolding answer tests given propose first since choose whole
 returns-3 c =
     let at-if2 = c .before .before .before in
-    let at-name-block = at-if2 .before in
-    let at-block-number = at-name-block .before in
-    let at-if1 = at-block-number .before in
-    let at-parent-refusal = at-if1 .before in
-    let entry = at-parent-refusal .before .before in
-    let a = entry .args in
-    let p : ℕ = a .parent .0 in
-    let e : ℕ = a .still .head .epoch .0 in
-    let w : ℕ = a .payload in
-    let r : Register = whole (a .still .head) (a .leaders .now) (a .parents .now) (a .epochs .now) (a .payloads .now) [] (a .signers .now) (a .subjects .now) (a .places .now) [] in
-    let tests : List Refusal = propose r (a .office) (a .parent) w .tests in
-    let early : at-parent-refusal .parent-refusal .result ≡ first (until 25 tests) = at-parent-refusal .parent-refusal .ensures ∙ unnamed _ _ _ _ _ _ _ _ _ _ _ in
-    let rest : first tests ≡ first (since 25 tests) = first-late 25 tests refl (sym early ∙ at-if1 .if1 .left) in
-    let last : at-block-number .block-number .result ≡ r .last .0 = at-block-number .block-number .ensures .0 in
-    let b : at-name-block .name-block .result ≡ named r p e w = rw last at (at-name-block .name-block .ensures) in
-    let full : blocksFull r p e w ≡ false = not-full r p e w _ b (at-if2 .if2 .left) in
-    c .refused3 .ensures ∙ rw (rest, full, no-room r (c .before .if3 .taken))
+    let at-if1 = at-if2 .before .before in
+    c .refused3 .ensures ∙ rw (late at-if1, room at-if2, no-room (given (at-if1 .before .before .before)) (c .before .if3 .taken))
 
 send-proposal-requires : tie.Need-send-proposal-requires
 unfolding whole
 send-proposal-requires c κs =
     let at-if2 = c .before .before in
-    let at-if1 = at-if2 .before .before .before in
-    let at-parent-refusal = at-if1 .before in
-    let entry = at-parent-refusal .before .before in
-    let a = entry .args in
-    let few = entry .pre .0 in
-    let ready = propose-ready _ (a .office) (a .parent) (a .payload) (sym (at-parent-refusal .parent-refusal .ensures) ∙ at-if1 .if1 .left) in
+    let at-if1 = at-if2 .before .before in
+    let at-early = at-if1 .before in
+    let s = at-early .before .before in
+    let a = s .args in
+    let few = s .pre .0 in
+    let ready = propose-ready _ (a .office) (a .parent) (a .payload) (sym (at-early .parent-refusal .ensures) ∙ at-if1 .if1 .left) in
     (few, c .if3 .left, omega (arith, ready .0, few), ready .1, at-if2 .if2 .left)
 
 returns-4 : tie.Need-returns-4
-unfolding answer propose first since choose whole named positive both
+unfolding answer tests given propose first since choose whole named
 returns-4 c =
     let at-if2 = c .before .before .before in
-    let at-name-block = at-if2 .before in
-    let at-block-number = at-name-block .before in
-    let at-if1 = at-block-number .before in
-    let at-parent-refusal = at-if1 .before in
-    let entry = at-parent-refusal .before .before in
-    let a = entry .args in
-    let p : ℕ = a .parent .0 in
-    let e : ℕ = a .still .head .epoch .0 in
-    let w : ℕ = a .payload in
-    let r : Register = whole (a .still .head) (a .leaders .now) (a .parents .now) (a .epochs .now) (a .payloads .now) [] (a .signers .now) (a .subjects .now) (a .places .now) [] in
-    let tests : List Refusal = propose r (a .office) (a .parent) w .tests in
-    let early : at-parent-refusal .parent-refusal .result ≡ first (until 25 tests) = at-parent-refusal .parent-refusal .ensures ∙ unnamed _ _ _ _ _ _ _ _ _ _ _ in
-    let rest : first tests ≡ first (since 25 tests) = first-late 25 tests refl (sym early ∙ at-if1 .if1 .left) in
-    let last : at-block-number .block-number .result ≡ r .last .0 = at-block-number .block-number .ensures .0 in
-    let b : at-name-block .name-block .result ≡ named r p e w = rw last at (at-name-block .name-block .ensures) in
-    let full : blocksFull r p e w ≡ false = not-full r p e w _ b (at-if2 .if2 .left) in
-    c .send-proposal .ensures ∙ rw (b, rest, full, has-room r (c .before .if3 .left))
+    let at-if1 = at-if2 .before .before in
+    c .send-proposal .ensures ∙ rw (block (at-if2 .before), late at-if1, room at-if2, has-room (given (at-if1 .before .before .before)) (c .before .if3 .left))
 
 pub propose-spec : {M : Type 1} → statement M
 propose-spec =
@@ -143,7 +125,6 @@ propose-spec =
     parent-refusal-requires
     refused-requires
     returns
-    block-number-requires
     name-block-requires
     refused-requires-2
     returns-2

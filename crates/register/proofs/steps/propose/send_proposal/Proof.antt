@@ -34,10 +34,10 @@ sent-named c b p e x q w =
     ap (λ (v : ℕ). heading (sending (naming c b p e x) false q b w) v (actedHead (sentHead (naming c b p e x .head)) q)) (named-count c b p e x)
 
 sent-place-requires : tie.Need-sent-place-requires
-sent-place-requires c κs = search needs
+sent-place-requires c κs = c .before .pre .0
 
 named-requires : tie.Need-named-requires
-named-requires c κs = search needs
+named-requires c κs = c .before .before .pre .4
 
 cast-sent : tie.Need-cast-sent
 cast-sent c = search needs

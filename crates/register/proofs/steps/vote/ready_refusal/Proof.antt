@@ -1,12 +1,10 @@
--- `ready_refusal` makes its four tests in their order.
+-- `ready_refusal` makes its four tests in their order: past each of them those that are left decide.
 use borrow.Author.Needs.{needs}
-use Prim.Native.Nat.{ℕ}
 use mathlib.Core.Path.{_≡_, sym, _∙_}
-use mathlib.Core.Bool.{true, false}
-use mathlib.Core.List.{[]}
+use mathlib.Core.List.{List, []}
 use borrow.Author.Tests.{not-true, not-false}
 use Rattle.words.specs.Tests.{choose}
-use Rattle.words.specs.Refusals.{first, until}
+use Rattle.words.specs.Refusals.{Refusal, first, until, since}
 use Rattle.register.specs.declared.table.Register.{Register}
 use Rattle.register.specs.Tables.{trusted, acted}
 use Rattle.register.specs.Steps.{vote}
@@ -15,67 +13,88 @@ use Rattle.register.proofs.Testing.{no-office, an-office, no-message, a
 use Rattle.register.proofs.steps.vote.ready_refusal.Statement.{statement}
 use Rattle.register.proofs.steps.vote.ready_refusal.Tie as tie
 
+-- the register of the numbers that are handed in, and the tests up to 12
+unfoldable given : tie.Start → Register
+given s = whole (s .args .head) [] [] [] [] [] [] [] [] []
+
+unfoldable tests : tie.Start → List Refusal
+tests s = until 14 (vote (given s) (s .args .office) (s .args .message) .tests)
+
+-- the start, from past each of the first three tests
+abbrev start-1 : tie.Else1 → tie.Start
+start-1 c = c .before .before .before
+
+abbrev start-2 : tie.Else2 → tie.Start
+start-2 c = start-1 (c .before .before .before)
+
+abbrev start-3 : tie.Else3 → tie.Start
+start-3 c = start-2 (c .before .before)
+
 returns : tie.Need-returns
-unfolding vote first until choose whole
+unfolding tests given vote first until choose whole
 returns c =
-    let a = c .before .before .args in
-    let r : Register = whole (a .head) [] [] [] [] [] [] [] [] [] in
-    rw (no-office r (a .office .0) (c .if1 .taken))
+    let s = c .before .before .before in
+    let holds : first (tests s) ≡ 6 = rw (no-office (given s) (s .args .office .0) (c .if1 .taken)) in
+    sym holds
+
+past-6 : (c : tie.Else1) → first (tests (start-1 c)) ≡ first (since 8 (tests (start-1 c)))
+unfolding tests given vote first until since choose whole
+past-6 c = rw (an-office (given (start-1 c)) (start-1 c .args .office .0) (c .if1 .left))
 
 returns-2 : tie.Need-returns-2
-unfolding vote first until choose whole
+unfolding tests given vote first until since choose whole
 returns-2 c =
-    let at-if1 = c .before .before .before in
-    let entry = at-if1 .before .before in
-    let a = entry .args in
-    let r : Register = whole (a .head) [] [] [] [] [] [] [] [] [] in
-    rw (an-office r (a .office .0) (at-if1 .if1 .left), no-message r (a .message .0) (c .if2 .taken))
+    let s = start-1 (c .before .before .before) in
+    let holds : first (since 8 (tests s)) ≡ 8 = rw (no-message (given s) (s .args .message .0) (c .if2 .taken)) in
+    sym (past-6 (c .before .before .before) ∙ holds)
+
+past-8 : (c : tie.Else2) → first (tests (start-2 c)) ≡ first (since 10 (tests (start-2 c)))
+unfolding tests given vote first until since choose whole
+past-8 c =
+    let fails : first (since 8 (tests (start-2 c))) ≡ first (since 10 (tests (start-2 c))) = rw (a-message (given (start-2 c)) (start-2 c .args .message .0) (c .if2 .left)) in
+    past-6 (c .before .before .before) ∙ fails
 
 trusted-at-requires : tie.Need-trusted-at-requires
 trusted-at-requires c κs = search needs
 
+-- whether the office is trusted, as it was found
+safe : (c : tie.After-trusted-at) → trusted (given (start-2 (c .before))) (start-2 (c .before) .args .office .0) ≡ c .trusted-at .result
+unfolding given trusted whole
+safe c = sym (c .trusted-at .ensures)
+
 returns-3 : tie.Need-returns-3
-unfolding vote first until choose whole trusted
+unfolding tests given vote first until since choose whole
 returns-3 c =
-    let at-if2 = c .before .before in
-    let at-if1 = at-if2 .before .before .before in
-    let entry = at-if1 .before .before in
-    let a = entry .args in
-    let r : Register = whole (a .head) [] [] [] [] [] [] [] [] [] in
-    let q : ℕ = a .office .0 in
-    let t : trusted r q ≡ false = sym (c .before .trusted-at .ensures) ∙ not-true _ (c .if3 .taken) in
-    rw (an-office r q (at-if1 .if1 .left), a-message r (a .message .0) (at-if2 .if2 .left), is-barred r q t)
+    let s = start-2 (c .before .before) in
+    let holds : first (since 10 (tests s)) ≡ 10 = rw (is-barred (given s) (s .args .office .0) (safe (c .before) ∙ not-true _ (c .if3 .taken))) in
+    sym (past-8 (c .before .before) ∙ holds)
+
+past-10 : (c : tie.Else3) → first (tests (start-3 c)) ≡ first (since 12 (tests (start-3 c)))
+unfolding tests vote first until since choose
+past-10 c =
+    let s = start-3 c in
+    let fails : first (since 10 (tests s)) ≡ first (since 12 (tests s)) = rw (not-barred (given s) (s .args .office .0) (safe (c .before) ∙ not-false _ (c .if3 .left))) in
+    past-8 (c .before .before) ∙ fails
 
 has-requires : tie.Need-has-requires
 has-requires c κs = search needs
 
+-- whether the office has acted, as it was found
+did : (c : tie.After-has) → acted (given (start-3 (c .before))) (start-3 (c .before) .args .office .0) ≡ c .has .result
+unfolding given acted whole
+did c = sym (c .has .ensures)
+
 returns-4 : tie.Need-returns-4
-unfolding vote acted first until choose whole trusted
+unfolding tests given vote first until since choose whole
 returns-4 c =
-    let at-if3 = c .before .before in
-    let at-trusted-at = at-if3 .before in
-    let at-if2 = at-trusted-at .before in
-    let at-if1 = at-if2 .before .before .before in
-    let entry = at-if1 .before .before in
-    let a = entry .args in
-    let r : Register = whole (a .head) [] [] [] [] [] [] [] [] [] in
-    let q : ℕ = a .office .0 in
-    let t : trusted r q ≡ true = sym (at-trusted-at .trusted-at .ensures) ∙ not-false _ (at-if3 .if3 .left) in
-    rw (an-office r q (at-if1 .if1 .left), a-message r (a .message .0) (at-if2 .if2 .left), not-barred r q t, ← (c .before .has .ensures), c .if4 .taken)
+    let holds : first (since 12 (tests (start-3 (c .before .before)))) ≡ 12 = rw (did (c .before) ∙ c .if4 .taken) in
+    sym (past-10 (c .before .before) ∙ holds)
 
 returns-5 : tie.Need-returns-5
-unfolding vote acted first until choose whole trusted
+unfolding tests given vote first until since choose whole
 returns-5 c =
-    let at-if3 = c .before .before in
-    let at-trusted-at = at-if3 .before in
-    let at-if2 = at-trusted-at .before in
-    let at-if1 = at-if2 .before .before .before in
-    let entry = at-if1 .before .before in
-    let a = entry .args in
-    let r : Register = whole (a .head) [] [] [] [] [] [] [] [] [] in
-    let q : ℕ = a .office .0 in
-    let t : trusted r q ≡ true = sym (at-trusted-at .trusted-at .ensures) ∙ not-false _ (at-if3 .if3 .left) in
-    rw (an-office r q (at-if1 .if1 .left), a-message r (a .message .0) (at-if2 .if2 .left), not-barred r q t, ← (c .before .has .ensures), c .if4 .left)
+    let fails : first (since 12 (tests (start-3 (c .before .before)))) ≡ 0 = rw (did (c .before) ∙ c .if4 .left) in
+    sym (past-10 (c .before .before) ∙ fails)
 
 pub ready-refusal-spec : {M : Type 1} → statement M
 ready-refusal-spec =

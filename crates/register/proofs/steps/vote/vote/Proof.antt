@@ -12,7 +12,7 @@ use Rattle.register.proofs.steps.vote.vote.Statement.{statement}
 use Rattle.register.proofs.steps.vote.vote.Tie as tie
 
 vote-refusal-requires : tie.Need-vote-refusal-requires
-vote-refusal-requires c κs = search needs
+vote-refusal-requires c κs = c .before .pre
 
 refused-requires : tie.Need-refused-requires
 refused-requires c κs = search needs

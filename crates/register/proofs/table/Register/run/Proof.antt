@@ -1,12 +1,11 @@
 -- `Register::run`: after i turns the register and the answers are those of the first i steps.
 use borrow.Author.Needs.{needs}
-use Prim.Native.Nat.{ℕ, _-_, _≤_, min}
+use Prim.Native.Nat.{_-_, _<_, _≤_, min}
 use mathlib.Core.Path.{_≡_, refl}
 use native.Mathlib.Omega.{arith}
-use Rattle.register.specs.declared.table.Register.{Register}
 use Rattle.register.specs.Runs.{stepAt, ranFirst}
-use Rattle.register.specs.Changes.{whole, written, Judged}
-use Rattle.register.proofs.Running.{ran-next, judged-same}
+use Rattle.register.specs.Changes.{whole, written}
+use Rattle.register.proofs.Running.{ran-next}
 use Rattle.register.proofs.table.Register.run.Statement.{statement}
 use Rattle.register.proofs.table.Register.run.Tie as tie
 
@@ -23,19 +22,18 @@ loop-holds : tie.Need-loop-holds Inv-loop μ-loop
 unfolding ranFirst
 loop-holds c = (search needs, refl)
 
-mul-step : tie.Need-mul-step Inv-loop μ-loop
-mul-step c = search needs
+-- in the loop i is below 64
+below : (c : tie.In-loop Inv-loop μ-loop) → c .before .loop .i < 64
+below c = omega (arith, c .loop-test .taken, c .before .before .in-batch .ensures)
 
-array-copy-out-step : tie.Need-array-copy-out-step Inv-loop μ-loop
-array-copy-out-step c = search needs
+mul-judge : tie.Need-mul-judge Inv-loop μ-loop
+mul-judge c = omega (arith, below (c .before .before .before .before .before .before .before .before .before .before .before .before))
 
-block-number-requires : tie.Need-block-number-requires Inv-loop μ-loop
-block-number-requires c κs = search needs
+array-copy-out-judge : tie.Need-array-copy-out-judge Inv-loop μ-loop
+array-copy-out-judge c = below (c .before .before .before .before .before .before .before .before .before .before .before .before)
 
 judge-requires : tie.Need-judge-requires Inv-loop μ-loop
-judge-requires c κs =
-    let at-block-number = c .before .before .before .before .before .before .before .before .before .before .before in
-    omega (arith, at-block-number .block-number .ensures .0, at-block-number .block-number .ensures .1)
+judge-requires c κs = search needs
 
 element-write-self : tie.Need-element-write-self Inv-loop μ-loop
 element-write-self c = c .before .before .judge .ensures .within .block
@@ -76,50 +74,33 @@ element-write-self-8 c = c .before .before .judge .ensures .within .place
 element-write-self-9 : tie.Need-element-write-self-9 Inv-loop μ-loop
 element-write-self-9 c = c .before .before .judge .ensures .within .ending
 
+-- the turn in which the steps' changes are written
+abbrev turn : tie.After-self3 Inv-loop μ-loop → tie.In-loop Inv-loop μ-loop
+turn c = c .before .before .before .before .before .before .before .before .before .before .before .before .before .before .before .before
+
 array-write-refusals : tie.Need-array-write-refusals Inv-loop μ-loop
-array-write-refusals c =
-    let at-loop-test = c .before .before .before .before .before .before .before .before .before .before .before .before .before .before .before .before in
-    let at-in-batch = at-loop-test .before .before in
-    omega (arith, at-loop-test .loop-test .taken, at-in-batch .in-batch .ensures)
+array-write-refusals c = below (turn c)
 
 mul-values : tie.Need-mul-values Inv-loop μ-loop
-mul-values c =
-    let at-loop-test = c .before .before .before .before .before .before .before .before .before .before .before .before .before .before .before .before in
-    let at-in-batch = at-loop-test .before .before in
-    omega (arith, at-loop-test .loop-test .taken, at-in-batch .in-batch .ensures)
+mul-values c = omega (arith, below (turn c))
 
 array-write-values : tie.Need-array-write-values Inv-loop μ-loop
-array-write-values c =
-    let at-loop-test = c .before .before .before .before .before .before .before .before .before .before .before .before .before .before .before .before in
-    let at-in-batch = at-loop-test .before .before in
-    omega (arith, at-loop-test .loop-test .taken, at-in-batch .in-batch .ensures)
+array-write-values c = below (turn c)
 
 add-i : tie.Need-add-i Inv-loop μ-loop
-add-i c =
-    let at-loop-test = c .before .before .before .before .before .before .before .before .before .before .before .before .before .before .before .before in
-    let at-in-batch = at-loop-test .before .before in
-    omega (arith, at-loop-test .loop-test .taken, at-in-batch .in-batch .ensures)
+add-i c = omega (arith, below (turn c))
 
 loop-less : tie.Need-loop-less Inv-loop μ-loop
-loop-less c =
-    let at-loop-test = c .before .before .before .before .before .before .before .before .before .before .before .before .before .before .before .before in
-    omega (arith, at-loop-test .loop-test .taken)
+loop-less c = omega (arith, turn c .loop-test .taken)
 
 loop-again : tie.Need-loop-again Inv-loop μ-loop
 unfolding written whole stepAt
 loop-again c =
     let at-judge = c .before .before in
-    let at-block-number = at-judge .before .before .before .before .before .before .before .before .before .before .before .before in
-    let at-loop-test = at-block-number .before .before in
-    let at-loop = at-loop-test .before in
-    let entry = at-loop .before .before in
-    let a = entry .args in
-    let r : Register = at-loop .loop .self in
-    let i : ℕ = at-loop .loop .i in
-    let judged : Judged r (stepAt (a .t2) i) (at-judge .judge .result) =
-    judged-same r (at-block-number .block-number .result) _ _ (at-block-number .block-number .ensures .0) (at-judge .judge .ensures) in (
-      omega (arith, at-loop-test .loop-test .taken),
-      ran-next (a .t1) r (a .t2) i (at-loop .loop .refusals) (at-loop .loop .values) (at-judge .judge .result) (at-loop .loop .inv .1) (judged .answer),
+    let at-loop = turn c .before in
+    let a = at-loop .before .before .args in (
+      omega (arith, turn c .loop-test .taken),
+      ran-next (a .t1) (at-loop .loop .self) (a .t2) (at-loop .loop .i) (at-loop .loop .refusals) (at-loop .loop .values) (at-judge .judge .result) (at-loop .loop .inv .1) (at-judge .judge .ensures .answer),
     )
 
 returns : tie.Need-returns Inv-loop μ-loop
@@ -135,9 +116,8 @@ run-spec =
     μ-loop
     in-batch-requires
     loop-holds
-    mul-step
-    array-copy-out-step
-    block-number-requires
+    mul-judge
+    array-copy-out-judge
     judge-requires
     element-write-self
     mul-self
