@@ -6,7 +6,6 @@ ghost use Rattle.register.specs.Opening.{untrusted, stray, openingRefusa
 use crate::refusal;
 use crate::sorts::Block;
 use crate::sorts::Epoch;
-use crate::sorts::Office;
 use crate::table::Opened;
 use crate::table::Register;
 
