@@ -110,7 +110,7 @@ Found log p next items.End = Stands log p (endBits p)
 Found log p next (items.Refused k) = record {}
 
 -- what holds of a chosen value, by the test that chose it
-chosen : {A : Type 0} (P : A → Type 0) (t : Bool) (x y : A) → (t ≡ true → P x) → (t ≡ false → P y) → P (choose t x y)
+pub chosen : {A : Type 0} (P : A → Type 0) (t : Bool) (x y : A) → (t ≡ true → P x) → (t ≡ false → P y) → P (choose t x y)
 unfolding choose
 chosen P true x y holds fails = holds refl
 chosen P false x y holds fails = fails refl

@@ -1,22 +1,22 @@
 -- Openings: one that stands at a log's start is read there, and what is read there stands there.
 use Prim.Native.Nat.{ℕ, zero, suc, _+_, _*_, _-_, _≤_, _<_}
 use mathlib.Core.Path.{_≡_, refl, sym, ap, _∙_}
-use mathlib.Core.Bool.{Bool}
+use mathlib.Core.Bool.{Bool, false, true}
 use mathlib.Core.List.{List, [], _∷_, _++_, append-assoc}
 use native.Mathlib.Nat.{add-zero}
 use native.Mathlib.Omega.{arith}
-use borrow.Author.Tests.{ltb-false, le-ltb}
+use borrow.Author.Tests.{ltb-false, le-ltb, not-false}
 use lib.Dec.{eqb, eqb·suc-zero}
 use lib.ListN.{length, getD, take, drop, length-append}
 use lib.Seq.{take-at}
-use Rattle.words.specs.Tests.{choose, both}
+use Rattle.words.specs.Tests.{choose, both, between}
 use Rattle.words.specs.Digits.{digit, fill}
 use Rattle.words.proofs.Digits.{digit-lt, digit-fill, fill-ext}
 use Rattle.words.specs.Refusals.{first}
 use Rattle.words.proofs.Refusals.{positive, Clear, first-clear}
 use Rattle.words.proofs.Sums.{tally-ext}
 use Rattle.register.specs.declared.table.Register.{Register}
-use Rattle.register.specs.Opening.{untrusted, openingRefusal, leaderTable, blank, fresh}
+use Rattle.register.specs.Opening.{untrusted, openingRefusal, leaderTable, blank, fresh, opening, stray}
 use Rattle.packed_log.specs.Bits.{toBits, bits, field}
 use Rattle.packed_log.specs.Items.{left}
 use Rattle.packed_log.specs.Openings.{countIn, trustIn, lengthIn, leadersAt, thereIn, openingTestsIn, openingRefusalIn, opened, openedBy, openingIn}
@@ -26,6 +26,7 @@ use Rattle.packed_log.proofs.BitsLaws.{field-lt}
 use Rattle.packed_log.proofs.WritingLaws.{length-trust, length-leaders, length-opening}
 use Rattle.packed_log.proofs.Unrefused.{Accepted, accepted}
 use Rattle.packed_log.proofs.OpeningFields.{length-leadersAt}
+use Rattle.packed_log.proofs.OpeningTests.{there-most}
 use Rattle.packed_log.proofs.Standing.{Stands, left-stands, stands-behind, value-stands, value-behind, stands-field}
 
 -- trust bits that stand at a position are read there
@@ -234,3 +235,21 @@ opening-stands log n trust schedule accepts register =
     let parts : Parts log n trust schedule = register-parts log n trust schedule none (rw none at register) in
     let next : openingIn log .next ≡ 15 + n + 5 * length schedule = rw (none, parts .count, parts .epochs) in
     (rw next (parts-stand log n trust schedule parts), next ∙ sym (length-opening n trust schedule))
+
+-- where the opening of a log is not refused, its parts open a register, and that is the one that is given
+pub opening-opens : (log : List ℕ) → openingIn log .refusal ≡ 0
+    → (opening (countIn log) (trustIn log (countIn log)) (leadersAt log (15 + countIn log) (lengthIn log (countIn log))) .refusal ≡ 0)
+    × (openingIn log .register ≡ opening (countIn log) (trustIn log (countIn log)) (leadersAt log (15 + countIn log) (lengthIn log (countIn log))) .register)
+unfolding openingIn openedBy openingRefusalIn opening openingRefusal first choose Clear positive both
+opening-opens log accepts =
+    let n : ℕ = countIn log in
+    let k : ℕ = lengthIn log n in
+    let schedule : List ℕ = leadersAt log (15 + n) k in
+    let none : openingRefusalIn log ≡ 0 = opened-refusal _ _ (openingRefusalIn log) _ accepts in
+    let tests : Clear (openingTestsIn log n k) = first-clear (openingTestsIn log n k) refl none in
+    let all : thereIn log n k ≡ k = omega (arith, there-most log n k, ltb-false (thereIn log n k) k (tests .1 .1 .1 .1 .1 .1 .0)) in
+    let leaders : stray n schedule ≡ false = rw all at (tests .1 .1 .1 .1 .1 .0) in
+    let offices : between 1 32 n ≡ true = not-false (between 1 32 n) (tests .1 .1 .0) in
+    let epochs : between 1 256 k ≡ true = not-false (between 1 256 k) (tests .1 .1 .1 .1 .0) in
+    let opens : openingRefusal n (trustIn log n) schedule ≡ 0 = rw (offices, length-leadersAt log (15 + n) k, epochs, leaders, tests .1 .1 .1 .1 .1 .1 .1 .0) in
+    (opens, rw (none, opens))

@@ -1,0 +1,136 @@
+-- Bodies: what reading an item does to the position, one item unfolded, and bodies against logs that read as steps and the end.
+use Prim.Native.Nat.{ℕ, zero, suc, _+_, _*_, _≤_, _<_, min}
+use mathlib.Core.Path.{_≡_, refl, ap, _∙_}
+use mathlib.Core.List.{List, [], _∷_}
+use native.Mathlib.Numerals.{add-one}
+use native.Mathlib.Omega.{arith}
+use borrow.Author.Tests.{ltb-false}
+use lib.Dec.{eqb, ltb}
+use lib.ListN.{length}
+use Rattle.register.specs.declared.step.Step.{Step}
+use Rattle.packed_log.specs.declared.item.Item.{Item}
+use Rattle.packed_log.specs.declared.item.Item.the-variants as items
+use Rattle.packed_log.specs.declared.item.Read.{Read}
+use Rattle.packed_log.specs.Bits.{field}
+use Rattle.packed_log.specs.Widths.{due}
+use Rattle.packed_log.specs.Items.{left, padded, endAt, stepAt, kindAt, itemAt}
+use Rattle.packed_log.specs.Logs.{ReadsFrom}
+use Rattle.packed_log.proofs.ItemsReadBack.{chosen}
+use Rattle.report.specs.Bodies.{Body, begun, bodyFrom, bodyAt}
+
+-- what an item that is read at position p keeps to: a step takes four bits or more of a log that is not too long; a refusal has a number
+unfoldable pub Sound : (log : List ℕ) → (p next : ℕ) → Item → Type 0
+Sound log p next (items.Step s) = (p + 4 ≤ next) × (next ≤ 8 * length log) × (length log ≤ 65536)
+Sound log p next items.End = record {}
+Sound log p next (items.Refused number) = 0 < number
+
+module _ (log : List ℕ) (p : ℕ) where
+  -- what is read at position p keeps to that
+  abbrev Keeps : Read → Type 0
+  Keeps r = Sound log p (r .next) (r .item)
+
+  -- so does a step of any kind
+  step-sound : (kind : ℕ) → length log ≤ 65536 → 4 ≤ left log p → Keeps (stepAt log kind p)
+  unfolding stepAt left Sound
+  step-sound kind small there =
+      chosen Keeps (ltb (left log (p + 4)) (due kind)) _ _ (λ _. omega arith)
+      (λ enough. let room : due kind ≤ left log (p + 4) = ltb-false (left log (p + 4)) (due kind) enough in (omega arith, omega arith, small))
+
+  -- so does every item
+  pub item-sound : Sound log p (itemAt log p .next) (itemAt log p .item)
+  unfolding itemAt kindAt endAt Sound
+  item-sound =
+      let k : ℕ = field log p 4 in
+      chosen Keeps (ltb 65536 (length log)) _ _ (λ _. omega arith)
+      (λ short. chosen Keeps (ltb (left log p) 4) _ _ (λ _. omega arith)
+      (λ there. chosen Keeps (ltb 8 k) _ _ (λ _. omega arith)
+      (λ _. chosen Keeps (eqb k 0) _ _
+      (λ _. chosen Keeps (padded log (p + 4)) _ _ (λ _. record {}) (λ _. omega arith))
+      (λ _. step-sound k (ltb-false 65536 (length log) short) (ltb-false (left log p) 4 there)))))
+
+-- two bodies that begin with one item are the same where, behind a step, so are their rests
+same-rest : (log : List ℕ) (p next : ℕ) (item : Item) (x y : Body) → Sound log p next item
+    → (left log next < left log p → x ≡ y) → begun item x ≡ begun item y
+unfolding Sound left begun
+same-rest log p next (items.Step s) x y sound h = ap (λ (b : Body). begun (items.Step s) b) (h (omega arith))
+same-rest log p next items.End x y sound h = refl
+same-rest log p next (items.Refused number) x y sound h = refl
+
+-- fuel beyond the bits that are left does not matter
+fuel-same : (f g : ℕ) (log : List ℕ) (p : ℕ) → left log p < f → left log p < g → bodyFrom f log p ≡ bodyFrom g log p
+unfolding bodyFrom
+fuel-same zero g log p enough more = absurd (omega arith)
+fuel-same (suc f) zero log p enough more = absurd (omega arith)
+fuel-same (suc f) (suc g) log p enough more =
+    same-rest log p _ (itemAt log p .item) _ _ (item-sound log p)
+    (λ less. fuel-same f g log (itemAt log p .next) (omega arith) (omega arith))
+
+-- a body is its first item with the body behind that item
+pub body-begins : (log : List ℕ) (p : ℕ) → bodyAt log p ≡ begun (itemAt log p .item) (bodyAt log (itemAt log p .next))
+unfolding bodyAt bodyFrom
+body-begins log p =
+    let next : ℕ = itemAt log p .next in
+    rw (add-one (left log p))
+    (same-rest log p next (itemAt log p .item) _ _ (item-sound log p)
+    (λ less. fuel-same (left log p) (left log next + 1) log next less (omega arith)))
+
+module _ (log : List ℕ) (p : ℕ) (read : Read) (here : read ≡ itemAt log p) where
+  -- the same, of an item that has been read
+  pub body-read : (item : Item) → read .item ≡ item → bodyAt log p ≡ begun item (bodyAt log (read .next))
+  body-read item is = body-begins log p ∙ rw (← here, is)
+
+  -- a step that has been read leaves fewer bits
+  pub fewer-left : (s : Step) → read .item ≡ items.Step s → left log (read .next) < left log p
+  unfolding left Sound
+  fewer-left s is =
+      let sound : (p + 4 ≤ read .next) × (read .next ≤ 8 * length log) × (length log ≤ 65536) = rw (← here, is) at (item-sound log p) in
+      omega arith
+
+-- a log that reads as steps and the end has those steps as its body
+pub reads-body : (log : List ℕ) (p : ℕ) (ss : List Step) → ReadsFrom log p ss → bodyAt log p ≡ record { steps = ss; refusal = 0 }
+unfolding ReadsFrom begun
+reads-body log p [] h = body-begins log p ∙ rw h
+reads-body log p (s ∷ ss) h = body-begins log p ∙ rw (h .0, reads-body log (itemAt log p .next) ss (h .1))
+
+-- where a body begins with the item at position p and has no refusal, the log reads as its steps, if it does so behind a step
+item-reads : (log : List ℕ) (p : ℕ) (item : Item) (rest : Body) → itemAt log p .item ≡ item → Sound log p (itemAt log p .next) item
+    → (left log (itemAt log p .next) < left log p → rest .refusal ≡ 0 → ReadsFrom log (itemAt log p .next) (rest .steps))
+    → begun item rest .refusal ≡ 0 → ReadsFrom log p (begun item rest .steps)
+unfolding Sound left begun ReadsFrom
+item-reads log p (items.Step s) rest here sound behind none = (here, behind (omega arith) none)
+item-reads log p items.End rest here sound behind none = here
+item-reads log p (items.Refused number) rest here sound behind none = absurd (omega arith)
+
+-- with enough fuel, a body without a refusal is what the log reads as
+from-reads : (fuel : ℕ) (log : List ℕ) (p : ℕ) → left log p < fuel → bodyFrom fuel log p .refusal ≡ 0
+    → ReadsFrom log p (bodyFrom fuel log p .steps)
+unfolding bodyFrom
+from-reads zero log p enough none = absurd (omega arith)
+from-reads (suc fuel) log p enough none =
+    item-reads log p (itemAt log p .item) _ refl (item-sound log p) (λ less. from-reads fuel log (itemAt log p .next) (omega arith)) none
+
+-- a body without a refusal is what the log reads as, with the end behind it
+pub body-reads : (log : List ℕ) (p : ℕ) → bodyAt log p .refusal ≡ 0 → ReadsFrom log p (bodyAt log p .steps)
+unfolding bodyAt
+body-reads log p none = from-reads (left log p + 1) log p (omega arith) none
+
+-- a step takes four bits or more, so an item in front of a body adds no more steps than there is room for
+few-item : (log : List ℕ) (p next : ℕ) (item : Item) (rest : Body) → Sound log p next item → 4 * length (rest .steps) ≤ left log next
+    → 4 * length (begun item rest .steps) ≤ min (left log p) 524288
+unfolding Sound left begun
+few-item log p next (items.Step s) rest sound few = omega arith
+few-item log p next items.End rest sound few = omega arith
+few-item log p next (items.Refused number) rest sound few = omega arith
+
+-- a body has at most a quarter as many steps as there are bits left, and as a log may have
+few-from : (fuel : ℕ) (log : List ℕ) (p : ℕ) → 4 * length (bodyFrom fuel log p .steps) ≤ min (left log p) 524288
+unfolding bodyFrom
+few-from zero log p = omega arith
+few-from (suc fuel) log p =
+    let next : ℕ = itemAt log p .next in
+    few-item log p next (itemAt log p .item) (bodyFrom fuel log next) (item-sound log p) (omega (arith, few-from fuel log next))
+
+-- a body has at most 131,072 steps
+pub body-few : (log : List ℕ) (p : ℕ) → length (bodyAt log p .steps) ≤ 131072
+unfolding bodyAt
+body-few log p = omega (arith, few-from (left log p + 1) log p)

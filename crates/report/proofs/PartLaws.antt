@@ -1,0 +1,105 @@
+-- Parts: gathering one step after the other, up to a whole part.
+use Prim.Native.Nat.{ℕ, zero, suc, _+_, _≤_, _<_}
+use mathlib.Core.Path.{_≡_, refl, sym, ap, _∙_}
+use mathlib.Core.List.{List, [], _∷_, _++_, map, append-nil, append-assoc}
+use mathlib.Core.Logic.{_⊎_, inl, inr}
+use native.Mathlib.Numerals.{add-one}
+use native.Mathlib.Omega.{arith}
+use lib.ListN.{length, getD, take, drop, set, replicate, length-take, length-drop, length-set, length-map, drop-of-length-le, List·getD-map}
+use lib.Seq.{length-take-le, take-all, take-suc, take-suc-set, take-at, drop-at}
+use Rattle.register.specs.declared.step.Step.{Step}
+use Rattle.packed_log.specs.declared.item.Item.the-variants as items
+use Rattle.report.specs.declared.body.Slot.{Slot}
+use Rattle.report.specs.declared.body.Part.{Part}
+use Rattle.report.specs.Bodies.{Body, begun, bodyAt}
+use Rattle.report.specs.Parts.{stepsOf, without, PartAt}
+
+-- a body with some steps in front
+unfoldable pub ahead : List Step → Body → Body
+ahead ss body = record { steps = ss ++ body .steps; refusal = body .refusal }
+
+-- what is gathered from position p on: the steps in the first slots, and from the position behind them on the rest of the body
+pub record Gathered (log : List ℕ) (p : ℕ) (part : Part) : Type 0 where
+  pub slots : length (part .slots) ≡ 64
+  pub count : part .count ≤ 64
+  pub body : bodyAt log p ≡ ahead (take (part .count) (stepsOf (part .slots))) (bodyAt log (part .next))
+
+-- a step that is put into slot i comes behind the i steps in front of it
+take-put : (slots : List Slot) (i : ℕ) (slot : Slot) → i < length slots
+    → take (suc i) (stepsOf (set slots i slot)) ≡ take i (stepsOf slots) ++ slot .step ∷ []
+unfolding stepsOf
+take-put [] i slot less = absurd (omega arith)
+take-put (x ∷ slots) zero slot less = refl
+take-put (x ∷ slots) (suc i) slot less = ap (λ (ss : List Step). x .step ∷ ss) (take-put slots i slot (omega arith))
+
+-- the step of slot i, copied behind the i steps in front of it
+pub copied-step : (slots : List Slot) (steps : List Step) (i : ℕ) (empty : Slot) → i < length slots → length steps ≡ length slots
+    → take i steps ≡ take i (stepsOf slots) → take (i + 1) (set steps i (getD slots i empty .step)) ≡ take (i + 1) (stepsOf slots)
+unfolding stepsOf
+copied-step slots steps i empty less sized so-far =
+    let f : Slot → Step = λ s. s .step in
+    let within : i < length (map f slots) = rw length-map less in
+    let there : i < length steps = omega arith in
+    rw (add-one, take-suc-set, so-far, take-suc (map f slots) i (empty .step), List·getD-map f slots i empty)
+
+-- the steps of all slots, copied
+pub copied-all : (slots : List Slot) (steps : List Step) (n : ℕ) → length slots ≡ n → length steps ≡ n
+    → take n steps ≡ take n (stepsOf slots) → steps ≡ stepsOf slots
+unfolding stepsOf
+copied-all slots steps n full sized all =
+    sym (take-all n steps (omega arith)) ∙ all ∙ take-all n (stepsOf slots) (rw length-map (omega arith))
+
+-- steps and the rest behind them are parted at 64 where there are 64 steps, or fewer with no step behind them
+parted : (ss rest : List Step) → length ss ≤ 64 → (length ss ≡ 64) ⊎ (rest ≡ [])
+    → (take 64 (ss ++ rest) ≡ ss) × (drop 64 (ss ++ rest) ≡ rest)
+parted ss rest small (inl all) = (take-at ss rest 64 all, drop-at ss rest 64 all)
+parted ss rest small (inr none) = rw (none, append-nil) (take-all 64 ss small, drop-of-length-le ss {i = 64} small)
+
+module _ (log : List ℕ) (p : ℕ) where
+  -- nothing gathered yet
+  pub gathered-none : (empty : Slot) → Gathered log p (record { slots = replicate 64 empty; count = 0; next = p })
+  unfolding ahead
+  gathered-none empty = record { slots = refl; count = omega arith; body = refl }
+
+  -- one step more
+  pub gathered-step : (part : Part) (step : Step) (next : ℕ) → Gathered log p part → part .count < 64
+      → bodyAt log (part .next) ≡ begun (items.Step step) (bodyAt log next)
+      → Gathered log p (record { slots = set (part .slots) (part .count) (record { step = step }); count = part .count + 1; next = next })
+  unfolding ahead begun
+  gathered-step part step next so-far less one =
+      let i : ℕ = part .count in
+      let slot : Slot = record { step = step } in
+      let put : take (suc i) (stepsOf (set (part .slots) i slot)) ≡ take i (stepsOf (part .slots)) ++ step ∷ [] =
+      take-put (part .slots) i slot (omega (arith, so-far .slots)) in
+      record {
+        slots = rw length-set (so-far .slots);
+        count = omega arith;
+        body = so-far .body ∙ rw (one, add-one, put, append-assoc);
+      }
+
+  -- a part is whole with 64 steps, or where no step follows
+  pub gathered-part : (part : Part) → Gathered log p part → (part .count ≡ 64) ⊎ (bodyAt log (part .next) .steps ≡ []) → PartAt log p part
+  unfolding ahead without stepsOf
+  gathered-part part so-far whole =
+      let ss : List Step = take (part .count) (stepsOf (part .slots)) in
+      let rest : Body = bodyAt log (part .next) in
+      let sized : length ss ≡ part .count =
+      length-take-le (part .count) (stepsOf (part .slots)) (rw (length-map, so-far .slots) (so-far .count)) in
+      let halves : (take 64 (ss ++ rest .steps) ≡ ss) × (drop 64 (ss ++ rest .steps) ≡ rest .steps) =
+      parted ss (rest .steps) (omega arith) (rw sized whole) in
+      let front : ss ≡ take 64 (bodyAt log p .steps) = rw (so-far .body) (sym (halves .0)) in
+      record {
+        count = sym sized ∙ ap length front ∙ length-take 64 (bodyAt log p .steps);
+        steps = front;
+        rest = rw (so-far .body, halves .1);
+      }
+
+-- what is left behind a part is the body without its first 64 steps
+pub part-rest : (log : List ℕ) (p : ℕ) (part : Part) → PartAt log p part → bodyAt log (part .next) .steps ≡ drop 64 (bodyAt log p .steps)
+unfolding without
+part-rest log p part h = ap (λ (b : Body). b .steps) (h .rest)
+
+-- behind a part that is not empty there are fewer steps
+pub part-fewer : (log : List ℕ) (p : ℕ) (part : Part) → PartAt log p part → (part .count ≡ 0 → ⊥)
+    → length (bodyAt log (part .next) .steps) < length (bodyAt log p .steps)
+part-fewer log p part h some = rw (part-rest log p part h, length-drop) (omega (arith, h .count))

@@ -1,0 +1,115 @@
+-- Laws of text that is written piece by piece, of numbers in decimal, and of how long the lines are.
+use Prim.Native.Nat.{ℕ, zero, suc, _+_, _*_, _-_, _/_, _%_, _^_, _≤_, _<_}
+use mathlib.Core.Path.{_≡_, ap, _∙_}
+use mathlib.Core.Bool.{Bool, true, false}
+use mathlib.Core.List.{List, [], _∷_, _++_}
+use native.Mathlib.Nat.{add-assoc, add-suc, add-zero, pow-succ', suc-add, zero-add}
+use native.Mathlib.Omega.{arith}
+use borrow.Author.Tests.{lt-ltb, le-ltb}
+use lib.Dec.{ltb}
+use lib.ListN.{length, drop, set, length-append}
+use lib.Seq.{sets, sets-eq, length-sets, set-comm}
+use Rattle.words.specs.Tests.{choose}
+use Rattle.packed_log.proofs.BitRows.{sets-sets}
+use Rattle.report.specs.Text.{Written, digitsBy, decimal, numberThen, threeNumbers, stepLine, officeLine}
+
+-- a text, and then another behind it, is the joined text
+pub then : {l m k : List ℕ} {p q r : ℕ} {t u : List ℕ} → Written l p t q m → Written m q u r k → Written l p (t ++ u) r k
+then {l} {m} {k} {p} {q} {r} {t} {u} first second =
+    record {
+      counted = second .counted ∙ rw (first .counted, length-append) (add-assoc _ _ _);
+      laid = second .laid ∙ rw (first .laid, first .counted) (sets-sets l p t u);
+    }
+
+-- a buffer that is written into keeps its length
+pub same-size : {l m t : List ℕ} {p q : ℕ} → Written l p t q m → length m ≡ length l
+same-size {l} {m} {t} {p} w = ap length (w .laid) ∙ length-sets l p t
+
+-- a text that is laid over a buffer from its start, where it fits: the text, and behind it the rest of the buffer
+pub sets-front : (buffer t : List ℕ) → length t ≤ length buffer → sets buffer 0 t ≡ t ++ drop (length t) buffer
+sets-front buffer t h = rw zero-add at (sets-eq t buffer 0 (rw zero-add h))
+
+-- the byte behind a text may be laid before the text
+pub byte-first : (l : List ℕ) (p : ℕ) (t : List ℕ) (b : ℕ) → sets (set l (p + length t) b) p t ≡ sets l p (t ++ (b ∷ []))
+byte-first l p [] b = rw add-zero
+byte-first l p (a ∷ t) b =
+    rw (set-comm l (p + suc (length t)) p b a (λ e. omega arith), add-suc, ← suc-add) (byte-first (set l p a) (suc p) t b)
+
+-- the tenth of a number is below the next lower power of ten
+shorter : (k n : ℕ) → n < 10 ^ suc k → n / 10 < 10 ^ k
+shorter k n h = let e : 10 ^ suc k ≡ 10 * 10 ^ k = pow-succ' 10 k in omega arith
+
+-- where there is room for all digits, more room changes nothing
+digits-more : (most n : ℕ) → n < 10 ^ suc most → digitsBy (suc (suc most)) n ≡ digitsBy (suc most) n
+unfolding digitsBy choose
+digits-more zero n h = rw (lt-ltb n 10 h)
+digits-more (suc most) n h = rw (digits-more most (n / 10) (shorter (suc most) n h))
+
+-- a number below 10 in decimal is its digit
+pub decimal-one : (n : ℕ) → n < 10 → decimal n ≡ (48 + n) ∷ []
+unfolding decimal digitsBy choose
+decimal-one n h = rw (lt-ltb n 10 h)
+
+-- any other is its tenth in decimal, and its last digit
+pub decimal-more : (n : ℕ) → n < 2 ^ 64 → 10 ≤ n → decimal n ≡ decimal (n / 10) ++ ((48 + n % 10) ∷ [])
+unfolding decimal digitsBy choose
+decimal-more n fits h = rw (le-ltb n 10 h, digits-more 18 (n / 10) (omega arith))
+
+-- a number from 10 on has one digit more than its tenth
+pub decimal-longer : (n : ℕ) → n < 2 ^ 64 → 10 ≤ n → length (decimal n) ≡ length (decimal (n / 10)) + 1
+decimal-longer n fits h = rw (decimal-more n fits h, length-append)
+
+-- a number is laid by its last digit, and then its tenth before it
+pub last-first : (l : List ℕ) (p place n : ℕ) → n < 2 ^ 64 → 10 ≤ n → place ≡ p + length (decimal n)
+    → sets (set l (place - 1) (48 + n % 10)) p (decimal (n / 10)) ≡ sets l p (decimal n)
+last-first l p place n fits h at-end =
+    let here : place - 1 ≡ p + length (decimal (n / 10)) = omega (arith, decimal-longer n fits h) in
+    rw (here, decimal-more n fits h) (byte-first l p (decimal (n / 10)) (48 + n % 10))
+
+-- one digit alone, or one digit behind others: at least one, and at most one more than the others
+chosen-size : (b : Bool) (x y : ℕ) (t : List ℕ)
+    → (0 < length (choose b (x ∷ []) (t ++ (y ∷ [])))) × (length (choose b (x ∷ []) (t ++ (y ∷ []))) ≤ length t + 1)
+unfolding choose
+chosen-size true x y t = (omega arith, omega arith)
+chosen-size false x y t = rw length-append (omega arith, omega arith)
+
+-- whatever the most of its digits, a number below 10 ^ (k + 1) has at most k + 1
+digits-short : (most k n : ℕ) → n < 10 ^ suc k → length (digitsBy most n) ≤ suc k
+unfolding digitsBy choose
+digits-short zero k n h = omega arith
+digits-short (suc most) zero n h = rw (lt-ltb n 10 h) (omega arith)
+digits-short (suc most) (suc k) n h =
+    omega (
+      arith,
+      chosen-size (ltb n 10) (48 + n) (48 + n % 10) (digitsBy most (n / 10)) .1,
+      digits-short most k (n / 10) (shorter (suc k) n h),
+    )
+
+-- a number below 10 ^ (k + 1) has at most k + 1 digits in decimal
+pub decimal-short : (k n : ℕ) → n < 10 ^ suc k → length (decimal n) ≤ suc k
+unfolding decimal
+decimal-short k n h = digits-short 20 k n h
+
+-- a number in decimal has a digit
+pub decimal-some : (n : ℕ) → 0 < length (decimal n)
+unfolding decimal digitsBy
+decimal-some n = chosen-size (ltb n 10) (48 + n) (48 + n % 10) (digitsBy 19 (n / 10)) .0
+
+-- three numbers on a line, which are below powers of ten: how long they are at most
+three-size : (i j k a b c : ℕ) → a < 10 ^ suc i → b < 10 ^ suc j → c < 10 ^ suc k → length (threeNumbers a b c) ≤ i + j + k + 6
+unfolding threeNumbers numberThen
+three-size i j k a b c x y z =
+    let long : length (threeNumbers a b c) ≡ length (decimal a) + length (decimal b) + length (decimal c) + 3 = simp length-append (omega arith) in
+    omega (arith, decimal-short i a x, decimal-short j b y, decimal-short k c z)
+
+-- the line of a step is at most 17 bytes long
+pub step-line-size : (place refusal value : ℕ) → place ≤ 131072 → refusal < 256 → value < 65536 → length (stepLine place refusal value) ≤ 17
+step-line-size place refusal value p r v =
+    three-size 5 2 4 place refusal value (omega arith) (omega arith) (omega arith)
+
+-- the line of an office is at most 18 bytes long
+pub office-line-size : (office final size : ℕ) → office < 32 → final < 256 → size < 256 → length (officeLine office final size) ≤ 18
+unfolding officeLine
+office-line-size office final size o f s =
+    let long : length (officeLine office final size) ≡ 7 + length (threeNumbers office final size) = simp length-append in
+    omega (arith, three-size 1 2 2 office final size (omega arith) (omega arith) (omega arith))

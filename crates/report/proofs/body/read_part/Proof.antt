@@ -1,0 +1,93 @@
+-- `report::body::read_part`: at each turn the first slots hold the steps in front of the position.
+use borrow.Author.Needs.{needs}
+use Prim.Native.Nat.{ℕ, _-_}
+use mathlib.Core.Path.{_≡_, refl, ap, _∙_}
+use mathlib.Core.List.{[]}
+use mathlib.Core.Logic.{_⊎_, inl, inr}
+use native.Mathlib.Omega.{arith}
+use denote.Enum.Declared.{tagOf}
+use Rattle.packed_log.specs.declared.item.Item.{Item}
+use Rattle.packed_log.specs.declared.item.Item.the-variants as items
+use Rattle.packed_log.proofs.item.Item as item-laws
+use Rattle.report.specs.Bodies.{Body, begun, bodyAt}
+use Rattle.report.proofs.BodyLaws.{body-read}
+use Rattle.report.proofs.PartLaws.{Gathered, gathered-none, gathered-step, gathered-part}
+use Rattle.report.proofs.body.read_part.Statement.{statement}
+use Rattle.report.proofs.body.read_part.Tie as tie
+
+abbrev Inv-loop : tie.InvT-loop
+Inv-loop log at slots₀ count₀ next₀ slots count next = Gathered log at (record { slots = slots; count = count; next = next })
+
+abbrev μ-loop : tie.MeasureT-loop
+μ-loop log at slots₀ count₀ next₀ slots count next = 64 - count
+
+-- the number of an item's variant, as the code tests it
+abbrev tag : Item → ℕ
+tag = tagOf item-laws.the-type
+
+-- an item that is no step closes the body
+closes : (item : Item) (rest : Body) → (tag item ≡ 1) ⊎ (tag item ≡ 2) → begun item rest .steps ≡ []
+unfolding begun
+closes (items.Step s) rest (inl other) = absurd (omega arith)
+closes (items.Step s) rest (inr other) = absurd (omega arith)
+closes items.End rest other = refl
+closes (items.Refused number) rest other = refl
+
+loop-holds : tie.Need-loop-holds Inv-loop μ-loop
+loop-holds c = gathered-none _ _ _
+
+read-item-requires : tie.Need-read-item-requires Inv-loop μ-loop
+read-item-requires c κs = search needs
+
+enum-known-item : tie.Need-enum-known-item Inv-loop μ-loop
+enum-known-item c = c .match .keys1
+
+mul-slots : tie.Need-mul-slots Inv-loop μ-loop
+mul-slots c = search needs
+
+array-set-from-slots : tie.Need-array-set-from-slots Inv-loop μ-loop
+array-set-from-slots c = search needs
+
+add-count : tie.Need-add-count Inv-loop μ-loop
+add-count c = search needs
+
+loop-less : tie.Need-loop-less Inv-loop μ-loop
+loop-less c = search needs
+
+-- what the item that was read begins
+by-item : (c : tie.After-read-item Inv-loop μ-loop) (item : Item) → c .read-item .result .item ≡ item
+    → bodyAt (c .before .before .before .before .args .log .now) (c .before .before .loop .next)
+    ≡ begun item (bodyAt (c .before .before .before .before .args .log .now) (c .read-item .result .next))
+by-item c item is = body-read _ (c .before .before .loop .next) (c .read-item .result) (c .read-item .ensures) item is
+
+loop-again : tie.Need-loop-again Inv-loop μ-loop
+loop-again c =
+    let at-read = c .before .before .before in
+    let at-loop-test = at-read .before in
+    gathered-step _ _ _ _ _ (at-loop-test .before .loop .inv) (at-loop-test .loop-test .taken) (by-item at-read _ (c .before .item .given .1))
+
+returns : tie.Need-returns Inv-loop μ-loop
+returns c = gathered-part _ _ _ (c .before .loop .inv) (inl (omega (arith, c .before .loop .inv .count)))
+
+returns-2 : tie.Need-returns-2 Inv-loop μ-loop
+returns-2 c =
+    let at-read = c .before in
+    gathered-part _ _ _ (at-read .before .before .loop .inv)
+    (inr (ap (λ (b : Body). b .steps) (by-item at-read _ refl) ∙ closes _ _ (c .match .keys2)))
+
+pub read-part-spec : {M : Type 1} → statement M
+read-part-spec =
+    tie.close
+    (tie.spec
+    Inv-loop
+    μ-loop
+    loop-holds
+    read-item-requires
+    enum-known-item
+    mul-slots
+    array-set-from-slots
+    add-count
+    loop-less
+    loop-again
+    returns
+    returns-2)

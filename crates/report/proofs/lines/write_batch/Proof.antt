@@ -1,0 +1,78 @@
+-- `report::lines::write_batch`: at each turn the lines of the first i answers are written.
+use borrow.Author.Needs.{needs}
+use Prim.Native.Nat.{_+_, _*_, _-_, _≤_}
+use mathlib.Core.Path.{_≡_, refl, sym}
+use native.Mathlib.Nat.{add-zero}
+use native.Mathlib.Numerals.{add-one}
+use native.Mathlib.Omega.{arith}
+use Rattle.report.specs.Text.{Written}
+use Rattle.report.specs.Batches.{batchLines}
+use Rattle.report.proofs.TextLaws.{then, same-size}
+use Rattle.report.proofs.lines.write_batch.Statement.{statement}
+use Rattle.report.proofs.lines.write_batch.Tie as tie
+
+abbrev Inv-loop : tie.InvT-loop
+Inv-loop report₀ at place refusals values count next₀ i₀ report next i = (i ≤ count) × (next ≤ 17 * (place + i)) × (Written report₀ at (batchLines place refusals values i) next report)
+
+abbrev μ-loop : tie.MeasureT-loop
+μ-loop report₀ at place refusals values count next₀ i₀ report next i = count - i
+
+loop-holds : tie.Need-loop-holds Inv-loop μ-loop
+unfolding batchLines
+loop-holds c = (search needs, omega arith, record { counted = sym (add-zero _); laid = refl })
+
+add-write-step-line : tie.Need-add-write-step-line Inv-loop μ-loop
+add-write-step-line c = search needs
+
+element-copy-out-write-step-line : tie.Need-element-copy-out-write-step-line Inv-loop μ-loop
+element-copy-out-write-step-line c = search needs
+
+mul-write-step-line : tie.Need-mul-write-step-line Inv-loop μ-loop
+mul-write-step-line c = search needs
+
+element-copy-out-write-step-line-2 : tie.Need-element-copy-out-write-step-line-2 Inv-loop μ-loop
+element-copy-out-write-step-line-2 c = search needs
+
+write-step-line-requires : tie.Need-write-step-line-requires Inv-loop μ-loop
+write-step-line-requires c κs = search needs
+
+add-i : tie.Need-add-i Inv-loop μ-loop
+add-i c = search needs
+
+loop-less : tie.Need-loop-less Inv-loop μ-loop
+loop-less c = search needs
+
+loop-again : tie.Need-loop-again Inv-loop μ-loop
+unfolding batchLines
+loop-again c =
+    let at-line = c .before .before in
+    let held = at-line .before .before .before .before .before .loop .inv in
+    let line = at-line .write-step-line .ensures in
+    (search needs, omega (arith, line .1, held .1), rw add-one (then (held .2) (line .0)))
+
+same-length : tie.Need-same-length Inv-loop μ-loop
+same-length c = same-size (c .before .loop .inv .2)
+
+returns : tie.Need-returns Inv-loop μ-loop
+returns c =
+    let end : c .before .loop .i ≡ c .before .before .before .args .count = omega arith in
+    let held = c .before .loop .inv in
+    (rw end at (held .2), omega (arith, held .1))
+
+pub write-batch-spec : {M : Type 1} → statement M
+write-batch-spec =
+    tie.close
+    (tie.spec
+    Inv-loop
+    μ-loop
+    loop-holds
+    add-write-step-line
+    element-copy-out-write-step-line
+    mul-write-step-line
+    element-copy-out-write-step-line-2
+    write-step-line-requires
+    add-i
+    loop-less
+    loop-again
+    same-length
+    returns)

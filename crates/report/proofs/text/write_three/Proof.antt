@@ -1,0 +1,36 @@
+-- `report::text::write_three`: each number is written where the one before it ends.
+use borrow.Author.Needs.{needs}
+use Rattle.report.specs.Text.{threeNumbers}
+use Rattle.report.proofs.TextLaws.{then}
+use Rattle.report.proofs.text.write_three.Statement.{statement}
+use Rattle.report.proofs.text.write_three.Tie as tie
+
+write-number-requires : tie.Need-write-number-requires
+write-number-requires c κs = search needs
+
+write-number-requires-2 : tie.Need-write-number-requires-2
+write-number-requires-2 c κs = search needs
+
+write-number-requires-3 : tie.Need-write-number-requires-3
+write-number-requires-3 c κs = search needs
+
+same-length : tie.Need-same-length
+same-length c = search needs
+
+returns : tie.Need-returns
+unfolding threeNumbers
+returns c =
+    let at-third = c .before .before in
+    let at-second = at-third .before .before .before .before in
+    let at-first = at-second .before .before .before .before in
+    then (then (at-first .write-number .ensures .0) (at-second .write-number2 .ensures .0)) (at-third .write-number3 .ensures .0)
+
+pub write-three-spec : {M : Type 1} → statement M
+write-three-spec =
+    tie.close
+    (tie.spec
+    write-number-requires
+    write-number-requires-2
+    write-number-requires-3
+    same-length
+    returns)

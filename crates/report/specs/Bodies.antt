@@ -1,0 +1,27 @@
+-- What a log holds behind its opening: steps, up to the end or to a refusal.
+use Prim.Native.Nat.{ℕ, zero, suc, _+_}
+use mathlib.Core.List.{List, [], _∷_}
+use Rattle.register.specs.declared.step.Step.{Step}
+use Rattle.packed_log.specs.declared.item.Item.{Item}
+use Rattle.packed_log.specs.declared.item.Item.the-variants as items
+use Rattle.packed_log.specs.Items.{left, itemAt}
+
+-- the steps up to the first item that is none, and that item as a number: 0 for the end, else the refusal
+pub record Body : Type 0 where
+  pub steps : List Step
+  pub refusal : ℕ
+
+-- the body that begins with an item: a step stands in front of the rest, any other item closes the body
+unfoldable pub begun : Item → (rest : Body) → Body
+begun (items.Step s) rest = record { steps = s ∷ rest .steps; refusal = rest .refusal }
+begun items.End rest = record { steps = []; refusal = 0 }
+begun (items.Refused number) rest = record { steps = []; refusal = number }
+
+-- the body from position p on, as far as the fuel reaches
+unfoldable pub bodyFrom : (fuel : ℕ) → (log : List ℕ) → (p : ℕ) → Body
+bodyFrom zero log p = record { steps = []; refusal = 0 }
+bodyFrom (suc fuel) log p = begun (itemAt log p .item) (bodyFrom fuel log (itemAt log p .next))
+
+-- the body from position p on: every step takes some of the bits that are left, so the fuel never runs out
+unfoldable pub bodyAt : (log : List ℕ) → (p : ℕ) → Body
+bodyAt log p = bodyFrom (left log p + 1) log p

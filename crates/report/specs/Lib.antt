@@ -1,0 +1,6 @@
+-- The report of a log. Read in this order.
+pub mod Text
+pub mod Bodies
+pub mod Parts
+pub mod Reports
+pub mod Batches

@@ -1,0 +1,60 @@
+-- The report of a log.
+use Prim.Native.Nat.{ℕ, zero, suc, _+_}
+use mathlib.Core.List.{List, [], _∷_, _++_}
+use lib.Dec.{eqb, leb}
+use lib.ListN.{length, drop, replicate}
+use Rattle.words.specs.Tests.{choose}
+use Rattle.register.specs.declared.step.Step.{Step}
+use Rattle.register.specs.declared.table.Register.{Register}
+use Rattle.register.specs.declared.table.Stepped.{Stepped}
+use Rattle.register.specs.Tables.{trusted, finalOf}
+use Rattle.register.specs.Chains.{chainLength}
+use Rattle.register.specs.Steps.{stepRule}
+use Rattle.register.specs.Promises.{answers}
+use Rattle.packed_log.specs.Openings.{openingIn}
+use Rattle.report.specs.Text.{stepLine, officeLine, logLine}
+use Rattle.report.specs.Bodies.{Body, bodyAt}
+
+-- a line for each answer: its place, counted on from the one given, 0 or the refusal, the value
+unfoldable pub stepLines : (place : ℕ) → List Stepped → List ℕ
+stepLines place [] = []
+stepLines place (s ∷ ss) = stepLine place (s .refusal) (s .value) ++ stepLines (place + 1) ss
+
+-- the line of a trusted office: its number, its final block, the length of that block's chain; nothing for any other
+unfoldable pub officeText : Register → (q : ℕ) → List ℕ
+officeText r q = choose (trusted r q) (officeLine q (finalOf r q) (chainLength r (finalOf r q))) []
+
+-- a line for each trusted office with a number below q, ascending
+unfoldable pub officeLines : Register → (q : ℕ) → List ℕ
+officeLines r zero = []
+officeLines r (suc q) = officeLines r q ++ officeText r q
+
+-- the register after some steps, each made on the register that the one before it gave
+unfoldable pub lastOf : (rule : Register → Step → Stepped) → Register → List Step → Register
+lastOf rule r [] = r
+lastOf rule r (s ∷ ss) = lastOf rule (rule r s .register) ss
+
+-- the lines of some steps, whose places are counted on from the one given, and then those of the offices, whose numbers are below 32
+unfoldable pub runLines : (rule : Register → Step → Stepped) → Register → (place : ℕ) → List Step → List ℕ
+runLines rule r place steps = stepLines place (answers rule r steps) ++ officeLines (lastOf rule r steps) 32
+
+-- what stands behind the log's opening
+unfoldable pub bodyOf : (log : List ℕ) → Body
+bodyOf log = bodyAt log (openingIn log .next)
+
+-- the number that the log is refused with, 0 where it reads: that of its opening, else that of what stands behind it
+unfoldable pub faultOf : (log : List ℕ) → ℕ
+faultOf log = choose (eqb (openingIn log .refusal) 0) (bodyOf log .refusal) (openingIn log .refusal)
+
+-- the report: a log that does not read gives its number alone
+unfoldable pub reportOf : (log : List ℕ) → List ℕ
+reportOf log = choose (eqb (faultOf log) 0) (runLines stepRule (openingIn log .register) 1 (bodyOf log .steps)) (logLine (faultOf log))
+
+-- the length that is returned: 0 where the report does not fit
+unfoldable pub lengthIn : (log buffer : List ℕ) → ℕ
+lengthIn log buffer = choose (leb (length (reportOf log)) (length buffer)) (length (reportOf log)) 0
+
+-- the buffer after the call: the report, later bytes untouched; all zero where it does not fit
+unfoldable pub bufferAfter : (log buffer : List ℕ) → List ℕ
+bufferAfter log buffer =
+    choose (leb (length (reportOf log)) (length buffer)) (reportOf log ++ drop (length (reportOf log)) buffer) (replicate (length buffer) 0)

@@ -1,0 +1,76 @@
+// What a log holds behind its opening: steps, up to the end or to a refusal.
+ghost use mathlib.Core.Path.{_≡_};
+ghost use lib.ListN.{length};
+ghost use Rattle.report.specs.Bodies.{bodyAt};
+ghost use Rattle.report.specs.Parts.{stepsOf, PartAt};
+use packed_log::Item;
+use packed_log::item::read_item;
+use register::Step;
+use register::run::BATCH;
+use register::run::Batch;
+
+// The refusal that reading the log from position `at` on ends with; 0 where it ends with the end.
+pub(crate) fn fault_from(log: &[u8], at: usize) -> u8
+    ensures { λ r. ⌜ r ≡ bodyAt (now (log .entry)) at .refusal ⌝ }
+{
+    let mut next = at;
+    loop {
+        let read = read_item(log, next);
+        let item = read.item;
+        match item {
+            Item::Step(_) => next = read.next,
+            Item::End => return 0,
+            Item::Refused(number) => return number,
+        }
+    }
+}
+
+// A place for one step.
+pub(crate) struct Slot {
+    pub step: Step,
+}
+
+// A part of a log's steps, in the first `count` slots, and the position behind them.
+pub(crate) struct Part {
+    pub slots: [Slot; 64],
+    pub count: usize,
+    pub next: usize,
+}
+
+// The steps from position `at` on, up to a batch of them. Each item is read once.
+pub(crate) fn read_part(log: &[u8], at: usize) -> Part
+    ensures { λ r. ⌜ PartAt (now (log .entry)) at r ⌝ }
+{
+    let empty = Slot {
+        step: Step::Advance,
+    };
+    let mut slots = [empty; 64];
+    let mut count = 0;
+    let mut next = at;
+    while count < BATCH {
+        let read = read_item(log, next);
+        let item = read.item;
+        let Item::Step(step) = item else {
+            break;
+        };
+        slots[count] = Slot { step };
+        next = read.next;
+        count += 1;
+    }
+    Part { slots, count, next }
+}
+
+// The steps in some slots, as a batch to run.
+pub(crate) fn steps_of(slots: [Slot; 64]) -> Batch
+    ensures { λ r. ⌜ (r ≡ stepsOf slots) × (length r ≡ 64) ⌝ }
+{
+    let mut steps = [Step::Advance; 64];
+    let mut i = 0;
+    while i < BATCH {
+        let slot = slots[i];
+        let step = slot.step;
+        steps[i] = step;
+        i += 1;
+    }
+    steps
+}

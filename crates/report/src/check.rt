@@ -1,0 +1,48 @@
+// The whole check: a log's bytes to the report's bytes.
+ghost use mathlib.Core.Path.{_≡_};
+ghost use lib.Dec.{eqb, leb};
+ghost use lib.ListN.{length, replicate};
+ghost use Rattle.words.specs.Tests.{choose};
+ghost use Rattle.report.specs.Bodies.{bodyAt};
+ghost use Rattle.report.specs.Reports.{lengthIn, bufferAfter};
+use crate::body::fault_from;
+use crate::run::write_run;
+use crate::text::clear;
+use crate::text::write_log_line;
+use packed_log::opening::read_opening;
+
+// The report's length where it fits; else 0, and the buffer is all zero.
+fn fitted(report: &mut [u8], size: usize) -> usize
+    ensures { λ r. ⌜ (r ≡ choose (leb size (length (now (report .entry)))) size 0) × (now (report .exit) ≡ choose (leb size (length (now (report .entry)))) (now (report .entry)) (replicate (length (now (report .entry))) 0)) ⌝ }
+{
+    if size <= report.len() {
+        return size;
+    }
+    clear(report);
+    0
+}
+
+// The number that a log is refused with: that of its opening, else that of what stands behind it.
+fn fault_of(log: &[u8], opening: u8, next: usize) -> u8
+    ensures { λ r. ⌜ r ≡ choose (eqb opening 0) (bodyAt (now (log .entry)) next .refusal) opening ⌝ }
+{
+    if opening == 0 {
+        return fault_from(log, next);
+    }
+    opening
+}
+
+// Checks a log, writes the report into the buffer and gives its length. Where it does not fit, that is 0, and the buffer is all zero.
+pub fn check(log: &[u8], report: &mut [u8]) -> usize
+    ensures { λ r. ⌜ (r ≡ lengthIn (now (log .entry)) (now (report .entry))) × (now (report .exit) ≡ bufferAfter (now (log .entry)) (now (report .entry))) ⌝ }
+{
+    let opening = read_opening(log);
+    let fault = fault_of(log, opening.refusal, opening.next);
+    if fault != 0 {
+        let size = write_log_line(report, 0, fault);
+        return fitted(report, size);
+    }
+    let register = opening.register;
+    let size = write_run(report, log, opening.next, register);
+    fitted(report, size)
+}

@@ -1,0 +1,56 @@
+// The lines of a report, many at a time.
+ghost use Prim.Native.Nat.{_+_, _*_, _^_, _≤_, _<_};
+ghost use Rattle.report.specs.Text.{Written};
+ghost use Rattle.report.specs.Reports.{officeText, officeLines};
+ghost use Rattle.report.specs.Batches.{batchLines};
+use crate::text::write_office_line;
+use crate::text::write_step_line;
+use register::Office;
+use register::Register;
+
+// Writes the lines of the first `count` answers of a batch, whose places are counted on from `place`.
+pub(crate) fn write_batch<'a>(
+    report: &mut [u8],
+    at: usize,
+    place: usize,
+    refusals: &'a [u8; 64],
+    values: &'a [u16; 64],
+    count: usize,
+) -> usize
+    requires { ⌜ (count ≤ 64) × (place + count ≤ 131073) × (at ≤ 17 * place) ⌝ }
+    ensures { λ r. ⌜ (Written (now (report .entry)) at (batchLines place (now (refusals .entry)) (now (values .entry)) count) r (now (report .exit))) × (r ≤ 17 * (place + count)) ⌝ }
+{
+    let mut next = at;
+    let mut i = 0;
+    while i < count {
+        next = write_step_line(report, next, place + i, refusals[i], values[i]);
+        i += 1;
+    }
+    next
+}
+
+// Writes the line of a trusted office; nothing for any other.
+fn write_office(report: &mut [u8], at: usize, register: Register, q: u8) -> usize
+    requires { ⌜ (q < 32) × (at ≤ 2 ^ 31) ⌝ }
+    ensures { λ r. ⌜ (Written (now (report .entry)) at (officeText register q) r (now (report .exit))) × (r ≤ at + 18) ⌝ }
+{
+    if !register.is_trusted(Office(q)) {
+        return at;
+    }
+    let last = register.final_block(Office(q));
+    write_office_line(report, at, q, last.0, register.chain_length(last))
+}
+
+// Writes the lines of the trusted offices, ascending.
+pub(crate) fn write_offices(report: &mut [u8], at: usize, register: Register) -> usize
+    requires { ⌜ at ≤ 2 ^ 30 ⌝ }
+    ensures { λ r. ⌜ Written (now (report .entry)) at (officeLines register 32) r (now (report .exit)) ⌝ }
+{
+    let mut next = at;
+    let mut q = 0;
+    while q < 32 {
+        next = write_office(report, next, register, q);
+        q += 1;
+    }
+    next
+}

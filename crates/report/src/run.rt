@@ -1,0 +1,34 @@
+// Running the steps of a log.
+ghost use Rattle.register.specs.Steps.{quickRule};
+ghost use Rattle.report.specs.Text.{Written};
+ghost use Rattle.report.specs.Bodies.{bodyAt};
+ghost use Rattle.report.specs.Reports.{runLines};
+use crate::body::read_part;
+use crate::body::steps_of;
+use crate::lines::write_batch;
+use crate::lines::write_offices;
+use register::Register;
+
+// Writes the lines of the steps that stand from position `from` on, run from that register, and then those of the offices.
+pub(crate) fn write_run(report: &mut [u8], log: &[u8], from: usize, register: Register) -> usize
+    ensures { λ r. ⌜ Written (now (report .entry)) 0 (runLines quickRule register 1 (bodyAt (now (log .entry)) from .steps)) r (now (report .exit)) ⌝ }
+{
+    let mut current = register;
+    let mut at = from;
+    let mut place = 1;
+    let mut next = 0;
+    loop {
+        let part = read_part(log, at);
+        let count = part.count;
+        if count == 0 {
+            break;
+        }
+        let slots = part.slots;
+        let ran = current.run(steps_of(slots), count);
+        current = ran.register;
+        next = write_batch(report, next, place, &ran.refusals, &ran.values, count);
+        place += count;
+        at = part.next;
+    }
+    write_offices(report, next, current)
+}

@@ -1,0 +1,11 @@
+// The check as a call for C: see include/skovarnek.h.
+ghost use mathlib.Core.Path.{_≡_};
+ghost use Rattle.report.specs.Reports.{lengthIn, bufferAfter};
+
+// Checks a log, writes the report and gives its length; where it does not fit, gives 0 and leaves a buffer of zeros.
+#[no_mangle]
+pub extern "C" fn skovarnek_check(log: &[u8], report: &mut [u8]) -> usize
+    ensures { λ r. ⌜ (r ≡ lengthIn (now (log .entry)) (now (report .entry))) × (now (report .exit) ≡ bufferAfter (now (log .entry)) (now (report .entry))) ⌝ }
+{
+    report::check::check(log, report)
+}
