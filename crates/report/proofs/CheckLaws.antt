@@ -50,11 +50,12 @@ report-run log none =
     let clear : openingIn log .refusal ≡ 0 = opening-clear (eqb (openingIn log .refusal) 0) (openingIn log .refusal) (bodyOf log .refusal) refl none in
     rw (eq-eqb (faultOf log) 0 none) (same-lines stepRule quickRule (openingIn log .register) 1 (bodyOf log .steps) (quick-answers log clear))
 
--- the length that is given, and the buffer that is left, where so much was written and kept or cleared, are those of the report
+-- where so much was written, and kept or cleared, the length that is given and the buffer that is left are those of the report
 abbrev Checked : (log before after : List ℕ) → (size : ℕ) → Type 0
 Checked log before after size =
     (choose (leb size (length after)) size 0 ≡ lengthIn log before)
     × (choose (leb size (length after)) after (replicate (length after) 0) ≡ bufferAfter log before)
+    × (size ≡ length (reportOf log))
 
 module _ (log before after : List ℕ) (size : ℕ) (written : Written before 0 (reportOf log) size after) where
   -- all of the report was counted
@@ -72,7 +73,7 @@ module _ (log before after : List ℕ) (size : ℕ) (written : Written before 0 
   checked : Checked log before after size
   unfolding lengthIn bufferAfter
   checked =
-      rw (counted, same-size written) (refl, held (leb (length (reportOf log)) (length before)) refl)
+      rw (counted, same-size written) (refl, held (leb (length (reportOf log)) (length before)) refl, refl)
 
 module _ (log before after : List ℕ) (o : Opening) (fault size : ℕ) (opens : o ≡ openingIn log)
     (told : fault ≡ choose (eqb (o .refusal) 0) (bodyAt log (o .next) .refusal) (o .refusal))

@@ -38,7 +38,7 @@ pub record SoFar (before report whole : List ℕ) (next place : ℕ) (r : Regist
   pub done : List ℕ
   pub text : whole ≡ done ++ runLines quickRule r place rest
   pub written : Written before 0 done next report
-  pub short : next ≤ 17 * place
+  pub short : next + 17 ≤ 17 * place
   pub few : place + length rest ≤ 131073
 
 -- nothing is written yet
@@ -83,7 +83,7 @@ module _ (r : Register) (place : ℕ) (rest batch : List Step) (count : ℕ) (ra
 
     -- a run comes one part further
     pub run-goes-on : {before report after whole : List ℕ} {next later : ℕ} → SoFar before report whole next place r rest
-        → Written report next (batchLines place (ran .refusals) (ran .values) count) later after → later ≤ 17 * (place + count)
+        → Written report next (batchLines place (ran .refusals) (ran .values) count) later after → later ≤ next + 17 * count
         → SoFar before after whole later (place + count) (ran .register) (drop 64 rest)
     run-goes-on {before} {report} {after} {whole} {next} {later} so-far lines short =
         let ls : List ℕ = batchLines place (ran .refusals) (ran .values) count in
@@ -92,7 +92,7 @@ module _ (r : Register) (place : ℕ) (rest batch : List Step) (count : ℕ) (ra
           done = so-far .done ++ ls;
           text = so-far .text ∙ ap (λ (t : List ℕ). so-far .done ++ t) part-text ∙ sym (append-assoc (so-far .done) ls tail);
           written = then (so-far .written) lines;
-          short = short;
+          short = omega (arith, so-far .short);
           few = simp length-drop (omega (arith, so-far .few));
         }
 

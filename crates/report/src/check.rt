@@ -1,10 +1,11 @@
 // The whole check: a log's bytes to the report's bytes.
 ghost use mathlib.Core.Path.{_≡_};
+ghost use Prim.Native.Nat.{_≤_};
 ghost use lib.Dec.{eqb, leb};
 ghost use lib.ListN.{length, replicate};
 ghost use Rattle.words.specs.Tests.{choose};
 ghost use Rattle.report.specs.Bodies.{bodyAt};
-ghost use Rattle.report.specs.Reports.{lengthIn, bufferAfter};
+ghost use Rattle.report.specs.Reports.{reportOf, lengthIn, bufferAfter};
 use crate::body::fault_from;
 use crate::run::write_run;
 use crate::text::clear;
@@ -32,9 +33,10 @@ fn fault_of(log: &[u8], opening: u8, next: usize) -> u8
     opening
 }
 
-// Checks a log, writes the report into the buffer and gives its length. Where it does not fit, that is 0, and the buffer is all zero.
+// Checks a log, writes the report into the buffer and gives its length. Where it does not fit, that is 0, and the buffer is all zero. No
+// report is longer than 2,228,800 bytes.
 pub fn check(log: &[u8], report: &mut [u8]) -> usize
-    ensures { λ r. ⌜ (r ≡ lengthIn (now (log .entry)) (now (report .entry))) × (now (report .exit) ≡ bufferAfter (now (log .entry)) (now (report .entry))) ⌝ }
+    ensures { λ r. ⌜ (r ≡ lengthIn (now (log .entry)) (now (report .entry))) × (now (report .exit) ≡ bufferAfter (now (log .entry)) (now (report .entry))) × (length (reportOf (now (log .entry))) ≤ 2228800) ⌝ }
 {
     let opening = read_opening(log);
     let fault = fault_of(log, opening.refusal, opening.next);

@@ -17,8 +17,8 @@ pub(crate) fn write_batch<'a>(
     values: &'a [u16; 64],
     count: usize,
 ) -> usize
-    requires { ⌜ (count ≤ 64) × (place + count ≤ 131073) × (at ≤ 17 * place) ⌝ }
-    ensures { λ r. ⌜ (Written (now (report .entry)) at (batchLines place (now (refusals .entry)) (now (values .entry)) count) r (now (report .exit))) × (r ≤ 17 * (place + count)) ⌝ }
+    requires { ⌜ (count ≤ 64) × (place + count ≤ 131073) × (at ≤ 2 ^ 31) ⌝ }
+    ensures { λ r. ⌜ (Written (now (report .entry)) at (batchLines place (now (refusals .entry)) (now (values .entry)) count) r (now (report .exit))) × (r ≤ at + 17 * count) ⌝ }
 {
     let mut next = at;
     let mut i = 0;
@@ -44,7 +44,7 @@ fn write_office(report: &mut [u8], at: usize, register: Register, q: u8) -> usiz
 // Writes the lines of the trusted offices, ascending.
 pub(crate) fn write_offices(report: &mut [u8], at: usize, register: Register) -> usize
     requires { ⌜ at ≤ 2 ^ 30 ⌝ }
-    ensures { λ r. ⌜ Written (now (report .entry)) at (officeLines register 32) r (now (report .exit)) ⌝ }
+    ensures { λ r. ⌜ (Written (now (report .entry)) at (officeLines register 32) r (now (report .exit))) × (r ≤ at + 576) ⌝ }
 {
     let mut next = at;
     let mut q = 0;

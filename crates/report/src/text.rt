@@ -130,7 +130,7 @@ pub(crate) fn write_office_line(
 // Writes the line of a refused log: the number of the refusal.
 pub(crate) fn write_log_line(report: &mut [u8], at: usize, number: u8) -> usize
     requires { ⌜ at ≤ 2 ^ 32 ⌝ }
-    ensures { λ r. ⌜ Written (now (report .entry)) at (logLine number) r (now (report .exit)) ⌝ }
+    ensures { λ r. ⌜ (Written (now (report .entry)) at (logLine number) r (now (report .exit))) × (r ≤ at + 25) ⌝ }
 {
     let next = write_word(report, at, b"log ");
     write_number(report, next, number as usize, b'\n')

@@ -1,6 +1,7 @@
 -- `report::check::check`: the log's number, or the lines of its steps and of the offices, kept where they fit.
 use borrow.Author.Needs.{needs}
 use mathlib.Core.Path.{_∙_}
+use native.Mathlib.Omega.{arith}
 use Rattle.report.proofs.CheckLaws.{checked-refused, checked-run}
 use Rattle.report.proofs.check.check.Statement.{statement}
 use Rattle.report.proofs.check.check.Tie as tie
@@ -28,8 +29,8 @@ returns c =
     let at-fault = at-if1 .before in
     let at-opening = at-fault .before in
     let fits = at-fitted .fitted .ensures in
-    let told = checked-refused _ _ _ _ _ _ (at-opening .read-opening .ensures) (at-fault .fault-of .ensures) (at-if1 .if1 .taken) (at-line .write-log-line .ensures) in
-    (fits .0 ∙ told .0, fits .1 ∙ told .1)
+    let told = checked-refused _ _ _ _ _ _ (at-opening .read-opening .ensures) (at-fault .fault-of .ensures) (at-if1 .if1 .taken) (at-line .write-log-line .ensures .0) in
+    (fits .0 ∙ told .0, fits .1 ∙ told .1, omega (arith, told .2, at-line .write-log-line .ensures .1))
 
 write-run-requires : tie.Need-write-run-requires
 write-run-requires c κs = search needs
@@ -48,8 +49,8 @@ returns-2 c =
     let at-fault = at-if1 .before in
     let at-opening = at-fault .before in
     let fits = at-fitted .fitted2 .ensures in
-    let told = checked-run _ _ _ _ _ _ (at-opening .read-opening .ensures) (at-fault .fault-of .ensures) (at-if1 .if1 .left) (at-run .write-run .ensures) in
-    (fits .0 ∙ told .0, fits .1 ∙ told .1)
+    let told = checked-run _ _ _ _ _ _ (at-opening .read-opening .ensures) (at-fault .fault-of .ensures) (at-if1 .if1 .left) (at-run .write-run .ensures .0) in
+    (fits .0 ∙ told .0, fits .1 ∙ told .1, omega (arith, told .2, at-run .write-run .ensures .1))
 
 pub check-spec : {M : Type 1} → statement M
 check-spec =

@@ -12,7 +12,7 @@ use Rattle.report.proofs.lines.write_batch.Statement.{statement}
 use Rattle.report.proofs.lines.write_batch.Tie as tie
 
 abbrev Inv-loop : tie.InvT-loop
-Inv-loop report₀ at place refusals values count next₀ i₀ report next i = (i ≤ count) × (next ≤ 17 * (place + i)) × (Written report₀ at (batchLines place refusals values i) next report)
+Inv-loop report₀ at place refusals values count next₀ i₀ report next i = (i ≤ count) × (next ≤ at + 17 * i) × (Written report₀ at (batchLines place refusals values i) next report)
 
 abbrev μ-loop : tie.MeasureT-loop
 μ-loop report₀ at place refusals values count next₀ i₀ report next i = count - i

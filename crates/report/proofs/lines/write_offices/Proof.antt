@@ -44,7 +44,8 @@ same-length c = same-size (c .before .loop .inv .2)
 returns : tie.Need-returns Inv-loop μ-loop
 returns c =
     let end : c .before .loop .q ≡ 32 = omega arith in
-    rw end at (c .before .loop .inv .2)
+    let held = c .before .loop .inv in
+    (rw end at (held .2), omega (arith, held .1))
 
 pub write-offices-spec : {M : Type 1} → statement M
 write-offices-spec =

@@ -70,14 +70,16 @@ write-offices-requires c κs = search needs
 same-length : tie.Need-same-length Inv-loop μ-loop
 same-length c =
     let at-offices = c .before .before in
-    same-size (at-offices .write-offices .ensures) ∙ same-size (at-offices .before .before .before .before .loop .inv .written)
+    same-size (at-offices .write-offices .ensures .0) ∙ same-size (at-offices .before .before .before .before .loop .inv .written)
 
 returns : tie.Need-returns Inv-loop μ-loop
 returns c =
     let at-offices = c .before .before in
     let at-part = at-offices .before .before .before in
     let read = part at-part in
-    run-ends (at-part .before .loop .inv) (omega (arith, read .count)) (at-offices .write-offices .ensures)
+    let so-far = at-part .before .loop .inv in
+    let lines = at-offices .write-offices .ensures in
+    (run-ends so-far (omega (arith, read .count)) (lines .0), omega (arith, lines .1, so-far .short, so-far .few))
 
 pub write-run-spec : {M : Type 1} → statement M
 write-run-spec =

@@ -1,5 +1,6 @@
 -- `report::text::write_log_line`: the word, and the number behind it.
 use borrow.Author.Needs.{needs}
+use native.Mathlib.Omega.{arith}
 use Rattle.report.specs.Text.{logLine}
 use Rattle.report.proofs.TextLaws.{then}
 use Rattle.report.proofs.text.write_log_line.Statement.{statement}
@@ -22,7 +23,8 @@ unfolding logLine
 returns c =
     let at-number = c .before .before in
     let at-word = at-number .before .before .before .before in
-    then (at-word .write-word .ensures) (at-number .write-number .ensures .0)
+    let number = at-number .write-number .ensures in
+    (then (at-word .write-word .ensures) (number .0), omega (arith, number .1, at-word .write-word .ensures .counted))
 
 pub write-log-line-spec : {M : Type 1} → statement M
 write-log-line-spec =
