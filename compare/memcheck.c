@@ -1,0 +1,56 @@
+/* Checks the logs whose names are given with buffers of every kind of length: longer than the report, just as long, shorter, and empty.
+ * Each buffer and each log has memory of its own, so that memcheck sees every byte read or written outside of it. */
+#include <stdio.h>
+#include <stdlib.h>
+#include <string.h>
+
+#include "skovarnek.h"
+
+/* Checks with a buffer of that length; gives 0 where the answer and the buffer are right. */
+static int check_with(const uint8_t *log, size_t log_len, const uint8_t *report, size_t length, size_t room)
+{
+    uint8_t *buffer = malloc(room);
+    memset(buffer, 0xA5, room);
+    size_t given = skovarnek_check(log, log_len, buffer, room);
+    int bad = given != (length <= room ? length : 0);
+    for (size_t i = 0; i < room && !bad; i++) {
+        uint8_t wanted = length > room ? 0 : i < length ? report[i] : 0xA5;
+        bad = buffer[i] != wanted;
+    }
+    free(buffer);
+    return bad;
+}
+
+static int check_file(const char *name)
+{
+    static uint8_t bytes[SKOVARNEK_LONGEST_LOG + 1], report[SKOVARNEK_LONGEST_REPORT];
+    FILE *file = fopen(name, "rb");
+    if (file == NULL) {
+        perror(name);
+        return 1;
+    }
+    size_t log_len = fread(bytes, 1, sizeof bytes, file);
+    fclose(file);
+    uint8_t *log = malloc(log_len);
+    memcpy(log, bytes, log_len);
+    size_t length = skovarnek_check(log, log_len, report, sizeof report);
+    size_t rooms[] = { length, length + 1, length + 100, length - 1, length / 2, 1, 0 };
+    int bad = length == 0;
+    for (size_t i = 0; i < sizeof rooms / sizeof *rooms; i++) {
+        bad |= check_with(log, log_len, report, length, rooms[i]);
+    }
+    free(log);
+    if (bad) {
+        fprintf(stderr, "%s: a wrong answer\n", name);
+    }
+    return bad;
+}
+
+int main(int count, char **names)
+{
+    int bad = count < 2;
+    for (int i = 1; i < count; i++) {
+        bad |= check_file(names[i]);
+    }
+    return bad;
+}
