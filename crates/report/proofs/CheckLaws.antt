@@ -13,11 +13,11 @@ use Rattle.register.specs.Steps.{stepRule, quickRule}
 use Rattle.register.specs.Promises.{answers, QuickAgrees}
 use Rattle.register.proofs.FitOpening.{quick-agrees}
 use Rattle.packed_log.specs.declared.opening.Opening.{Opening}
-use Rattle.packed_log.specs.Openings.{countIn, trustIn, lengthIn as epochsIn, leadersAt, openingIn}
+use Rattle.packed_log.specs.Openings.{countIn, trustIn, lengthIn, leadersAt, openingIn}
 use Rattle.packed_log.proofs.OpeningsReadBack.{opening-opens}
 use Rattle.report.specs.Text.{Written, logLine}
 use Rattle.report.specs.Bodies.{bodyAt}
-use Rattle.report.specs.Reports.{runLines, bodyOf, faultOf, reportOf, lengthIn, bufferAfter}
+use Rattle.report.specs.Reports.{runLines, bodyOf, faultOf, reportOf, givenLength, bufferAfter}
 use Rattle.report.proofs.TextLaws.{same-size, sets-front}
 use Rattle.report.proofs.RunLaws.{same-lines}
 
@@ -39,7 +39,7 @@ unfolding QuickAgrees
 quick-answers log clear =
     let n : ℕ = countIn log in
     let trust : ℕ = trustIn log n in
-    let schedule : List ℕ = leadersAt log (15 + n) (epochsIn log n) in
+    let schedule : List ℕ = leadersAt log (15 + n) (lengthIn log n) in
     let opens : (opening n trust schedule .refusal ≡ 0) × (openingIn log .register ≡ opening n trust schedule .register) = opening-opens log clear in
     rw (opens .1) (quick-agrees n trust schedule (bodyOf log .steps) (opens .0))
 
@@ -53,7 +53,7 @@ report-run log none =
 -- where so much was written, and kept or cleared, the length that is given and the buffer that is left are those of the report
 abbrev Checked : (log before after : List ℕ) → (size : ℕ) → Type 0
 Checked log before after size =
-    (choose (leb size (length after)) size 0 ≡ lengthIn log before)
+    (choose (leb size (length after)) size 0 ≡ givenLength log before)
     × (choose (leb size (length after)) after (replicate (length after) 0) ≡ bufferAfter log before)
     × (size ≡ length (reportOf log))
 
@@ -71,7 +71,7 @@ module _ (log before after : List ℕ) (size : ℕ) (written : Written before 0 
 
   -- they are so where the report was written
   checked : Checked log before after size
-  unfolding lengthIn bufferAfter
+  unfolding givenLength bufferAfter
   checked =
       rw (counted, same-size written) (refl, held (leb (length (reportOf log)) (length before)) refl, refl)
 

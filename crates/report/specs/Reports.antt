@@ -51,8 +51,8 @@ unfoldable pub reportOf : (log : List ℕ) → List ℕ
 reportOf log = choose (eqb (faultOf log) 0) (runLines stepRule (openingIn log .register) 1 (bodyOf log .steps)) (logLine (faultOf log))
 
 -- the length that is returned: 0 where the report does not fit
-unfoldable pub lengthIn : (log buffer : List ℕ) → ℕ
-lengthIn log buffer = choose (leb (length (reportOf log)) (length buffer)) (length (reportOf log)) 0
+unfoldable pub givenLength : (log buffer : List ℕ) → ℕ
+givenLength log buffer = choose (leb (length (reportOf log)) (length buffer)) (length (reportOf log)) 0
 
 -- the buffer after the call: the report, later bytes untouched; all zero where it does not fit
 unfoldable pub bufferAfter : (log buffer : List ℕ) → List ℕ
