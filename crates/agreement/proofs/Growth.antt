@@ -8,6 +8,7 @@ use native.Mathlib.Omega.{arith}
 use borrow.Author.Tests.{le-leb, leb-true}
 use lib.Dec.{eqb, ltb}
 use lib.ListN.{length}
+use Rattle.quorum.specs.Enough.{enough}
 use Rattle.words.specs.Tests.{choose, both, every, member}
 use Rattle.words.specs.Sums.{tally, unit, weigh}
 use Rattle.words.proofs.Tests.{both-left, both-right, both-make, either-cases, either-left, either-right, any-at, any-make, every-same}
@@ -16,7 +17,7 @@ use Rattle.register.specs.declared.table.Made.{Made}
 use Rattle.register.specs.declared.table.Sent.{Sent}
 use Rattle.register.specs.declared.table.Register.{Register}
 use Rattle.register.specs.Tables.{trustedIn, trusted, madeIn, made, madeOf, parentIn, parentOf, epochIn, epochOf, sentOf}
-use Rattle.register.specs.Views.{inView, saysIn, says, signed, signers, enough, notarised}
+use Rattle.register.specs.Views.{inView, saysIn, says, signed, signers, notarised}
 use Rattle.register.specs.Chains.{chain, chainLength, valid, chainNotarised}
 use Rattle.register.proofs.Chains.{parent-le, on-chain-le, chain-kept}
 use Rattle.register.proofs.Views.{enough-make, enough-least}

@@ -8,6 +8,7 @@ use native.Mathlib.Decide.{decLt}
 use borrow.Author.Tests.{eq-eqb, leb-true, leb-false, lt-ltb, not-false}
 use lib.Dec.{eqb}
 use lib.ListN.{getD, replicate, length-replicate, getD-replicate, List·getD-eq-default}
+use Rattle.quorum.specs.Opening.{untrusted, tooMany, openingTests, openingRefusal}
 use Rattle.words.specs.Tests.{choose, both, between}
 use Rattle.words.specs.Sums.{tally, unit, weigh}
 use Rattle.words.specs.Digits.{digit}
@@ -17,7 +18,7 @@ use Rattle.words.proofs.Sums.{weigh-more}
 use Rattle.words.proofs.Digits.{digit-lt, digit-fill}
 use Rattle.words.proofs.Refusals.{numbered, cleared}
 use Rattle.register.specs.Tables.{trustedIn, trusted, finalOf}
-use Rattle.register.specs.Opening.{untrusted, tooMany, openingTests, openingRefusal, blank, closed, fresh, opening}
+use Rattle.register.specs.Opening.{blank, closed, fresh, opening}
 use Rattle.agreement.specs.Moments.{Run, opened}
 use Rattle.agreement.proofs.Safety.{genesis, Safe}
 

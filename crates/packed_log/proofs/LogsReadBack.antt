@@ -6,7 +6,8 @@ use mathlib.Core.List.{List, _++_, append-assoc}
 use native.Mathlib.Nat.{zero-add}
 use native.Mathlib.Omega.{arith}
 use lib.ListN.{length, drop, length-append, length-replicate}
-use Rattle.register.specs.Opening.{openingRefusal, fresh}
+use Rattle.quorum.specs.Opening.{openingRefusal}
+use Rattle.register.specs.Opening.{fresh}
 use Rattle.packed_log.specs.declared.opening.Opening.{Opening}
 use Rattle.packed_log.specs.Bits.{bits}
 use Rattle.packed_log.specs.Openings.{opened, openingIn}

@@ -8,13 +8,14 @@ use native.Mathlib.Omega.{arith}
 use borrow.Author.Tests.{not-false, ltb-false, lt-ltb, ne-eqb}
 use lib.Dec.{eqb, ltb}
 use lib.ListN.{length}
+use Rattle.quorum.specs.Opening.{untrusted, tooMany, stray, openingRefusal}
 use Rattle.words.specs.Tests.{choose, both, any, between}
 use Rattle.words.specs.Refusals.{_⇒_, first}
 use Rattle.words.proofs.Tests.{clash, between-true, between-make}
 use Rattle.words.proofs.Refusals.{positive, Clear, first-clear, first-before, first-behind}
 use Rattle.register.specs.declared.table.Register.{Register}
 use Rattle.register.specs.declared.table.Opened.{Opened}
-use Rattle.register.specs.Opening.{untrusted, tooMany, stray, openingRefusal, fresh, closed, opening}
+use Rattle.register.specs.Opening.{fresh, closed, opening}
 use Rattle.packed_log.specs.Items.{left}
 use Rattle.packed_log.specs.Openings.{countIn, trustIn, lengthIn, leadersAt, thereIn, countTests, lengthTests, leaderTests, openingTestsIn, openingRefusalIn, opened, openedBy, openingIn}
 use Rattle.packed_log.proofs.OpeningFields.{length-leadersAt}

@@ -7,12 +7,12 @@ use native.Mathlib.Numerals.{add-one}
 use native.Mathlib.Omega.{arith}
 use lib.ListN.{length, getD, take, length-append}
 use lib.Seq.{length-take-le, take-suc}
+use Rattle.quorum.specs.Opening.{openingTests, openingRefusal}
 use Rattle.words.specs.Tests.{choose, both}
 use Rattle.words.specs.Refusals.{Refusal, _⇒_, first}
 use Rattle.words.specs.Digits.{digit}
 use Rattle.words.proofs.Digits.{digit-lt}
 use Rattle.words.proofs.Refusals.{positive, first-before, first-behind}
-use Rattle.register.specs.Opening.{openingTests, openingRefusal}
 use Rattle.packed_log.specs.Bits.{toBits, put}
 use Rattle.packed_log.specs.Writing.{trustBits, leaderBits, openingBits, short, openingRefused}
 use Rattle.packed_log.proofs.BitRows.{length-toBits, bit-row}

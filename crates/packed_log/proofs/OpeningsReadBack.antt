@@ -9,6 +9,7 @@ use borrow.Author.Tests.{ltb-false, le-ltb, not-false}
 use lib.Dec.{eqb, eqb·suc-zero}
 use lib.ListN.{length, getD, take, drop, length-append}
 use lib.Seq.{take-at}
+use Rattle.quorum.specs.Opening.{untrusted, stray, openingRefusal}
 use Rattle.words.specs.Tests.{choose, both, between}
 use Rattle.words.specs.Digits.{digit, fill}
 use Rattle.words.proofs.Digits.{digit-lt, digit-fill, fill-ext}
@@ -16,7 +17,7 @@ use Rattle.words.specs.Refusals.{first}
 use Rattle.words.proofs.Refusals.{positive, Clear, first-clear}
 use Rattle.words.proofs.Sums.{tally-ext}
 use Rattle.register.specs.declared.table.Register.{Register}
-use Rattle.register.specs.Opening.{untrusted, openingRefusal, leaderTable, blank, fresh, opening, stray}
+use Rattle.register.specs.Opening.{leaderTable, blank, fresh, opening}
 use Rattle.packed_log.specs.Bits.{toBits, bits, field}
 use Rattle.packed_log.specs.Items.{left}
 use Rattle.packed_log.specs.Openings.{countIn, trustIn, lengthIn, leadersAt, thereIn, openingTestsIn, openingRefusalIn, opened, openedBy, openingIn}

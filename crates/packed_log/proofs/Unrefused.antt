@@ -6,10 +6,10 @@ use mathlib.Core.List.{List}
 use borrow.Author.Tests.{not-false, leb-false}
 use lib.Dec.{leb}
 use lib.ListN.{length, getD}
+use Rattle.quorum.specs.Opening.{untrusted, tooMany, stray, openingTests, openingRefusal}
 use Rattle.words.specs.Tests.{both, between}
 use Rattle.words.proofs.Tests.{any-none, between-true}
 use Rattle.words.proofs.Refusals.{positive, Clear, first-clear}
-use Rattle.register.specs.Opening.{untrusted, tooMany, stray, openingTests, openingRefusal}
 
 -- what the tests of an opening say, and what that means
 pub record Accepted (n trust : ℕ) (schedule : List ℕ) : Type 0 where

@@ -8,10 +8,10 @@ use native.Mathlib.Omega.{arith}
 use borrow.Author.Tests.{le-ltb}
 use lib.ListN.{length, take, drop, length-append, length-take, take-append-drop, drop-of-length-le}
 use lib.Seq.{sets-eq}
+use Rattle.quorum.specs.Opening.{openingRefusal}
 use Rattle.words.specs.Tests.{choose}
 use Rattle.words.proofs.Tests.{either-false-left, either-false-right}
 use Rattle.register.specs.declared.step.Step.{Step}
-use Rattle.register.specs.Opening.{openingRefusal}
 use Rattle.packed_log.specs.Bits.{Bytes, bits, bytes, put}
 use Rattle.packed_log.specs.Rows.{rowOf}
 use Rattle.packed_log.specs.Writing.{stepBits, endBits, wide, short, openingRefused, stepRefused, endRefused, wrote, laid}

@@ -4,9 +4,10 @@ use mathlib.Core.Path.{_≡_}
 use mathlib.Core.Bool.{Bool, false}
 use mathlib.Core.List.{List, [], _∷_, _++_}
 use lib.ListN.{length}
+use Rattle.quorum.specs.Opening.{openingRefusal}
 use Rattle.words.specs.Tests.{either}
 use Rattle.register.specs.declared.step.Step.{Step}
-use Rattle.register.specs.Opening.{openingRefusal, fresh}
+use Rattle.register.specs.Opening.{fresh}
 use Rattle.packed_log.specs.declared.item.Item.the-variants as items
 use Rattle.packed_log.specs.Bits.{bytes}
 use Rattle.packed_log.specs.Rows.{rowOf}

@@ -3,8 +3,8 @@ use Prim.Native.Nat.{ℕ, _-_, _^_}
 use mathlib.Core.Path.{_≡_}
 use mathlib.Core.Bool.{Bool, true, false}
 use mathlib.Core.List.{List, [], _∷_}
-use Rattle.register.specs.Views.{enough}
-use Rattle.register.specs.Opening.{openingRefusal}
+use Rattle.quorum.specs.Enough.{enough}
+use Rattle.quorum.specs.Opening.{openingRefusal}
 use Rattle.packed_log.specs.Logs.{Case, packed}
 
 pub data Marked : Type 0 where

@@ -4,11 +4,12 @@ use mathlib.Core.Bool.{not}
 use mathlib.Core.List.{List, [], _∷_, _++_}
 use lib.Dec.{eqb, ltb}
 use lib.ListN.{length}
+use Rattle.quorum.specs.Opening.{untrusted, tooMany, stray}
 use Rattle.words.specs.Tests.{choose, between}
 use Rattle.words.specs.Digits.{fill}
 use Rattle.words.specs.Refusals.{Refusal, _⇒_, first}
 use Rattle.register.specs.declared.table.Register.{Register}
-use Rattle.register.specs.Opening.{untrusted, tooMany, stray, closed, fresh}
+use Rattle.register.specs.Opening.{closed, fresh}
 use Rattle.packed_log.specs.declared.opening.Opening.{Opening}
 use Rattle.packed_log.specs.Bits.{field}
 use Rattle.packed_log.specs.Items.{left}

@@ -4,11 +4,11 @@ use mathlib.Core.Bool.{Bool, false}
 use mathlib.Core.List.{List, [], _∷_, _++_}
 use lib.Dec.{eqb, ltb, leb}
 use lib.ListN.{length, replicate}
+use Rattle.quorum.specs.Opening.{openingTests}
 use Rattle.words.specs.Tests.{choose, either}
 use Rattle.words.specs.Digits.{digit}
 use Rattle.words.specs.Refusals.{_⇒_, first}
 use Rattle.register.specs.declared.step.Step.{Step}
-use Rattle.register.specs.Opening.{openingTests}
 use Rattle.packed_log.specs.declared.row.Row.{Row}
 use Rattle.packed_log.specs.declared.writing.Wrote.{Wrote}
 use Rattle.packed_log.specs.Bits.{toBits, put}

@@ -11,7 +11,6 @@ use crate::opening::LENGTH_WIDTH;
 use crate::refusal;
 use crate::writing::Wrote;
 use crate::writing::room_of;
-use register::Register;
 
 // Lays the trust bits of n offices over the buffer from position `at` on, office 0 first.
 fn write_trust(buf: &mut [u8], at: usize, n: u8, trust: u32)
@@ -54,8 +53,7 @@ fn lay_opening(buf: &mut [u8], at: usize, n: u8, trust: u32, schedule: &[u8])
 pub fn write_opening(buf: &mut [u8], at: usize, n: u8, trust: u32, schedule: &[u8]) -> Wrote
     ensures { λ r. ⌜ (r ≡ wrote (openingRefused (now (buf .entry)) at n trust (now (schedule .entry))) at (openingBits n trust (now (schedule .entry)))) × (now (buf .exit) ≡ laid (now (buf .entry)) (openingRefused (now (buf .entry)) at n trust (now (schedule .entry))) at (openingBits n trust (now (schedule .entry)))) ⌝ }
 {
-    let opened = Register::open(n, trust, schedule);
-    let refusal = opened.refusal;
+    let refusal = quorum::opening_refusal(n, trust, schedule);
     if refusal != 0 {
         return Wrote { refusal, next: at };
     }

@@ -6,6 +6,7 @@ use mathlib.Core.List.{List, [], _∷_}
 use native.Mathlib.Omega.{arith}
 use borrow.Author.Tests.{eq-eqb, leb-false, not-false}
 use lib.ListN.{length, length-replicate, getD-replicate, List·getD-append}
+use Rattle.quorum.specs.Opening.{stray, openingTests, openingRefusal}
 use Rattle.words.specs.Tests.{choose}
 use Rattle.words.specs.Refusals.{Refusal}
 use Rattle.words.proofs.Tests.{both-left, any-none, between-true}
@@ -14,7 +15,7 @@ use Rattle.register.specs.declared.step.Step.{Step}
 use Rattle.register.specs.declared.table.Register.{Register}
 use Rattle.register.specs.declared.table.Stepped.{Stepped}
 use Rattle.register.specs.Fitness.{fit}
-use Rattle.register.specs.Opening.{stray, openingTests, openingRefusal, leaderTable, blank, closed, fresh, opening}
+use Rattle.register.specs.Opening.{leaderTable, blank, closed, fresh, opening}
 use Rattle.register.specs.Steps.{ruleOf, judged, stepRule, quickRule}
 use Rattle.register.specs.Promises.{OpeningsAreFit, answers, QuickAgrees}
 use Rattle.register.proofs.FitSteps.{ranges-step}

@@ -5,20 +5,13 @@ use mathlib.Core.List.{List, [], _∷_, _++_}
 use native.Mathlib.Numerals.{add-one}
 use native.Mathlib.Omega.{arith}
 use borrow.Author.Tests.{not-false}
-use lib.Dec.{eqb}
 use lib.ListN.{length, take, set, getD, replicate}
 use lib.Seq.{take-suc, length-take-le, append-snoc, set-at}
+use Rattle.quorum.specs.Opening.{openingRefusal}
 use Rattle.words.proofs.Tests.{between-true}
 use Rattle.words.specs.Tests.{choose}
-use Rattle.words.specs.Digits.{digit}
 use Rattle.words.proofs.Refusals.{numbered, cleared}
-use Rattle.words.proofs.Sums.{tally-not}
-use Rattle.register.specs.Opening.{untrusted, openingRefusal, leaderTable}
-
--- at most n offices of n are untrusted
-pub untrusted-most : (n trust : ℕ) → untrusted n trust ≤ n
-unfolding untrusted
-untrusted-most n trust = omega (arith, tally-not n (λ q. eqb (digit 2 trust q) 1))
+use Rattle.register.specs.Opening.{leaderTable}
 
 -- an opening that is not refused has a schedule of at most 256 epochs
 pub accepted-schedule : (n trust : ℕ) (schedule : List ℕ) → openingRefusal n trust schedule ≡ 0 → length schedule ≤ 256

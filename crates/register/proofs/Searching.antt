@@ -11,6 +11,7 @@ use borrow.Author.Tests.{eq-eqb, ne-eqb, lt-ltb, le-ltb}
 use lib.Dec.{eqb, ltb}
 use lib.ListN.{length, getD, set, replicate, getD-replicate}
 use lib.Seq.{getD-set-same, getD-set-other}
+use Rattle.quorum.specs.Enough.{enough}
 use Rattle.words.specs.Digits.{digit, fill}
 use Rattle.words.specs.Sums.{tally}
 use Rattle.words.specs.Tests.{choose, both, either, any, every}
@@ -19,7 +20,7 @@ use Rattle.words.proofs.Sums.{tally-ext}
 use Rattle.words.proofs.Digits.{bit-set, fill-ext}
 use Rattle.register.specs.declared.table.Register.{Register}
 use Rattle.register.specs.Tables.{trusted, parentIn, parentOf, epochIn, epochOf}
-use Rattle.register.specs.Views.{view, saysIn, signed, signedIn, signers, notarised, enough}
+use Rattle.register.specs.Views.{view, saysIn, signed, signedIn, signers, notarised}
 use Rattle.register.specs.Chains.{chainBy, chain, chainLength, valid, chainNotarised, longer, longest}
 use Rattle.register.specs.Searches.{setOf, notarisedIn, soundBy, soundIn, longerBy, longestBy}
 use Rattle.register.proofs.Scans.{signed-in}

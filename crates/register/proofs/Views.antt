@@ -4,10 +4,11 @@ use mathlib.Core.Path.{_≡_, refl}
 use mathlib.Core.Bool.{true}
 use borrow.Author.Tests.{le-leb, leb-true}
 use native.Mathlib.Omega.{arith}
+use Rattle.quorum.specs.Enough.{enough}
 use Rattle.words.specs.Sums.{tally, unit}
 use Rattle.words.proofs.Sums.{always, tally-always, weigh-more}
 use Rattle.register.specs.declared.table.Register.{Register}
-use Rattle.register.specs.Views.{signed, signers, enough}
+use Rattle.register.specs.Views.{signed, signers}
 
 -- there are no more different signers than offices
 pub signers-most : (r : Register) (q b : ℕ) → signers r q b ≤ r .n

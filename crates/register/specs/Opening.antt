@@ -1,40 +1,15 @@
 -- Opening a register.
-use Prim.Native.Nat.{ℕ, _*_, _-_}
-use mathlib.Core.Bool.{Bool, false, not}
-use mathlib.Core.List.{List, [], _∷_, _++_}
-use lib.Dec.{eqb, leb}
-use lib.ListN.{length, getD, replicate}
-use Rattle.words.specs.Tests.{choose, any, between}
-use Rattle.words.specs.Sums.{tally}
+use Prim.Native.Nat.{ℕ, _-_}
+use mathlib.Core.Bool.{false}
+use mathlib.Core.List.{List, [], _++_}
+use lib.Dec.{eqb}
+use lib.ListN.{length, replicate}
+use Rattle.words.specs.Tests.{choose}
 use Rattle.words.specs.Digits.{digit, fill}
-use Rattle.words.specs.Refusals.{Refusal, _⇒_, first}
+use Rattle.quorum.specs.Opening.{openingRefusal}
 use Rattle.register.specs.declared.table.Register.{Register}
 use Rattle.register.specs.declared.table.Opened.{Opened}
 use Rattle.register.specs.Tables.{epoch, block}
-
--- how many of the n offices have the trust bit 0
-unfoldable pub untrusted : (n : ℕ) → (trust : ℕ) → ℕ
-untrusted n trust = tally n (λ q. not (eqb (digit 2 trust q) 1))
-
--- so many untrusted of n offices are too many: 3 × untrusted ≥ n
-unfoldable pub tooMany : (untrusted : ℕ) → (n : ℕ) → Bool
-tooMany untrusted n = leb n (3 * untrusted)
-
--- a leader that is no office
-unfoldable pub stray : (n : ℕ) → (schedule : List ℕ) → Bool
-stray n schedule = any (length schedule) (λ i. leb n (getD schedule i 0))
-
--- 1 count, 2 schedule, 3 stray leader, 4 third
-abbrev pub openingTests : (n trust : ℕ) → (schedule : List ℕ) → List Refusal
-openingTests n trust schedule =
-    (not (between 1 32 n) ⇒ 1)
-    ∷ (not (between 1 256 (length schedule)) ⇒ 2)
-    ∷ (stray n schedule ⇒ 3)
-    ∷ (tooMany (untrusted n trust) n ⇒ 4)
-    ∷ []
-
-unfoldable pub openingRefusal : (n trust : ℕ) → (schedule : List ℕ) → ℕ
-openingRefusal n trust schedule = first (openingTests n trust schedule)
 
 -- the table of leaders: the schedule, and office 0 from its end up to entry 255
 unfoldable pub leaderTable : List ℕ → List ℕ

@@ -5,11 +5,12 @@ use mathlib.Core.Bool.{Bool, not}
 use mathlib.Core.List.{List}
 use lib.Dec.{eqb, ltb}
 use lib.ListN.{length}
+use Rattle.quorum.specs.Enough.{enough}
 use Rattle.words.specs.Tests.{choose, both, either, any, every}
 use Rattle.words.specs.Sums.{tally}
 use Rattle.words.specs.Digits.{fill}
 use Rattle.register.specs.Tables.{parentIn, epochIn}
-use Rattle.register.specs.Views.{signedIn, enough}
+use Rattle.register.specs.Views.{signedIn}
 use Rattle.register.specs.Chains.{chainBy}
 
 -- the set of the 32 offices of which a test holds, as a word

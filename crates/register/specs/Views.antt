@@ -1,12 +1,13 @@
 -- Where a message is for an office, what stands in an office's view, and when a block is notarised there.
-use Prim.Native.Nat.{ℕ, _*_}
+use Prim.Native.Nat.{ℕ}
 use mathlib.Core.Bool.{Bool}
 use mathlib.Core.List.{List}
-use lib.Dec.{eqb, ltb, leb}
+use lib.Dec.{eqb, ltb}
 use lib.ListN.{getD}
 use Rattle.words.specs.Tests.{choose, both, either, any}
 use Rattle.words.specs.Sums.{tally}
 use Rattle.words.specs.Digits.{digit}
+use Rattle.quorum.specs.Enough.{enough}
 use Rattle.register.specs.declared.table.Register.{Register}
 use Rattle.register.specs.Tables.{trusted}
 
@@ -55,10 +56,6 @@ signedIn places signers subjects count q signer b =
 -- how many different offices' signatures on block b are in office q's view
 unfoldable pub signers : Register → ℕ → ℕ → ℕ
 signers r q b = tally (r .n) (λ signer. signed r q signer b)
-
--- so many signers of n offices are enough: 3 × signers ≥ 2 × n
-unfoldable pub enough : (signers : ℕ) → (n : ℕ) → Bool
-enough signers n = leb (2 * n) (3 * signers)
 
 -- block b is notarised in office q's view; genesis always is
 unfoldable pub notarised : Register → ℕ → ℕ → Bool

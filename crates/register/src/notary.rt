@@ -5,11 +5,12 @@ ghost use mathlib.Core.Bool.{false};
 ghost use Prim.Native.Nat.{ℕ, _≤_, _<_};
 ghost use lib.Dec.{eqb};
 ghost use lib.ListN.{getD};
+ghost use Rattle.quorum.specs.Enough.{enough};
 ghost use Rattle.words.specs.Tests.{both, either};
 ghost use Rattle.words.specs.Sums.{tally};
 ghost use Rattle.words.specs.Digits.{digit};
 ghost use Rattle.register.specs.Tables.{parentIn, epochIn};
-ghost use Rattle.register.specs.Views.{view, signedIn, enough};
+ghost use Rattle.register.specs.Views.{view, signedIn};
 ghost use Rattle.register.specs.Searches.{setOf, soundBy, soundIn};
 use crate::scan::entry;
 use crate::scan::epoch_at;
@@ -57,13 +58,6 @@ pub(crate) fn gather<'a>(
     sets
 }
 
-// The members of a set are enough signers of n offices: three times their number is at least twice n.
-fn is_enough(set: u32, n: u8) -> bool
-    ensures { λ r. ⌜ r ≡ enough (tally n (λ s. eqb (digit 2 set s) 1)) n ⌝ }
-{
-    2 * (n as u32) <= 3 * words::members(set, n)
-}
-
 // For each block made, whether its epoch is greater than its parent's and its signers are enough.
 pub(crate) fn sound<'a>(
     sets: &'a [u32; 256],
@@ -80,7 +74,7 @@ pub(crate) fn sound<'a>(
         let b = k + 1;
         let at = b as usize;
         let later = epoch_at(epochs, last, parent_at(parents, last, b)) < epoch_at(epochs, last, b);
-        flags[at] = later & is_enough(sets[at], n);
+        flags[at] = later & quorum::is_enough(sets[at], n);
         k += 1;
     }
     flags

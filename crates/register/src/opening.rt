@@ -2,51 +2,11 @@
 ghost use mathlib.Core.Path.{_≡_};
 ghost use Prim.Native.Nat.{_≤_};
 ghost use lib.ListN.{length};
-ghost use Rattle.register.specs.Opening.{untrusted, stray, openingRefusal, leaderTable, blank, closed, fresh, opening};
-use crate::refusal;
+ghost use Rattle.register.specs.Opening.{leaderTable, blank, closed, fresh, opening};
 use crate::sorts::Block;
 use crate::sorts::Epoch;
 use crate::table::Opened;
 use crate::table::Register;
-
-// How many of the n offices have the trust bit 0.
-fn count_untrusted(n: u8, trust: u32) -> u32
-    ensures { λ r. ⌜ r ≡ untrusted n trust ⌝ }
-{
-    n as u32 - words::members(trust, n)
-}
-
-// Some leader of the schedule is no office.
-fn has_stray(n: u8, schedule: &[u8]) -> bool
-    ensures { λ r. ⌜ r ≡ stray n (now (schedule .entry)) ⌝ }
-{
-    let mut found = false;
-    let mut i = 0;
-    while i < schedule.len() {
-        found = found | (schedule[i] >= n);
-        i += 1;
-    }
-    found
-}
-
-// The number of the refusal that the opening meets first, 0 where it meets none.
-fn opening_refusal(n: u8, trust: u32, schedule: &[u8]) -> u8
-    ensures { λ r. ⌜ r ≡ openingRefusal n trust (now (schedule .entry)) ⌝ }
-{
-    if !words::between(1, 32, n as usize) {
-        return refusal::COUNT;
-    }
-    if !words::between(1, 256, schedule.len()) {
-        return refusal::SCHEDULE;
-    }
-    if has_stray(n, schedule) {
-        return refusal::STRAY_LEADER;
-    }
-    if 3 * count_untrusted(n, trust) >= n as u32 {
-        return refusal::THIRD;
-    }
-    0
-}
 
 // The table of leaders: the schedule, and office 0 past its end.
 fn leader_table(schedule: &[u8]) -> [u8; 256]
@@ -112,7 +72,7 @@ impl Register {
     pub fn open(n: u8, trust: u32, schedule: &[u8]) -> Opened
         ensures { λ r. ⌜ r ≡ opening n trust (now (schedule .entry)) ⌝ }
     {
-        let refusal = opening_refusal(n, trust, schedule);
+        let refusal = quorum::opening_refusal(n, trust, schedule);
         if refusal == 0 {
             return Opened {
                 register: fresh(n, trust, schedule),

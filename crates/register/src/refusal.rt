@@ -1,12 +1,12 @@
 // The numbers of refusal of an opening and of a step; 0 stands for none.
 
-pub const COUNT: u8 = 1;
+pub const COUNT: u8 = quorum::COUNT;
 
-pub const SCHEDULE: u8 = 2;
+pub const SCHEDULE: u8 = quorum::SCHEDULE;
 
-pub const STRAY_LEADER: u8 = 3;
+pub const STRAY_LEADER: u8 = quorum::STRAY_LEADER;
 
-pub const THIRD: u8 = 4;
+pub const THIRD: u8 = quorum::THIRD;
 
 pub const UNFIT_REGISTER: u8 = 5;
 

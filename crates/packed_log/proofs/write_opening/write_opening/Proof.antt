@@ -1,13 +1,12 @@
 -- `packed_log::write_opening::write_opening`: refuses what the register refuses, then with 31, or lays the opening.
 use borrow.Author.Needs.{needs}
 use Prim.Native.Nat.{ℕ, _+_, _*_}
-use mathlib.Core.Path.{_≡_, sym, ap, _∙_}
+use mathlib.Core.Path.{_≡_, sym, _∙_}
 use mathlib.Core.Bool.{Bool, true, false}
 use mathlib.Core.List.{List}
 use native.Mathlib.Omega.{arith}
 use lib.ListN.{length}
-use Rattle.register.specs.declared.table.Opened.{Opened}
-use Rattle.register.specs.Opening.{openingRefusal, opening}
+use Rattle.quorum.specs.Opening.{openingRefusal}
 use Rattle.packed_log.specs.Writing.{openingBits, short}
 use Rattle.packed_log.proofs.WritingLaws.{length-opening, room-within, short-room, long-room, call-refused, call-laid}
 use Rattle.packed_log.proofs.OpeningWrites.{opening-bad, opening-short, opening-fits}
@@ -15,17 +14,16 @@ use Rattle.packed_log.proofs.Unrefused.{Accepted, accepted}
 use Rattle.packed_log.proofs.write_opening.write_opening.Statement.{statement}
 use Rattle.packed_log.proofs.write_opening.write_opening.Tie as tie
 
-open-requires : tie.Need-open-requires
-open-requires c κs = search needs
+opening-refusal-requires : tie.Need-opening-refusal-requires
+opening-refusal-requires c κs = search needs
 
 returns : tie.Need-returns
-unfolding opening
 returns c =
     let a = c .before .before .before .before .args in
     let l : List ℕ = a .buf .now in
     let schedule : List ℕ = a .schedule .now in
     let t : List Bool = openingBits (a .n) (a .trust) schedule in
-    let told = ap (λ (o : Opened). o .refusal) (c .before .«open» .ensures) in
+    let told = c .before .opening-refusal .ensures in
     let bad = c .if1 .taken in
     call-refused l (a .at) _ _ t (opening-bad l (a .at) (a .n) (a .trust) schedule _ told bad) (omega (arith, bad))
 
@@ -35,8 +33,7 @@ start c = c .before .before .before .before
 
 -- the register does not refuse the opening
 opens : (c : tie.Else1) → openingRefusal (start c .args .n) (start c .args .trust) (start c .args .schedule .now) ≡ 0
-unfolding opening
-opens c = sym (ap (λ (o : Opened). o .refusal) (c .before .«open» .ensures)) ∙ c .if1 .left
+opens c = sym (c .before .opening-refusal .ensures) ∙ c .if1 .left
 
 -- so its parts are in their ranges
 ranges : (c : tie.Else1) → Accepted (start c .args .n) (start c .args .trust) (start c .args .schedule .now)
@@ -84,8 +81,8 @@ lay-opening-requires c κs =
     let within-buffer = room-within _ _ _ _ (at-room-of .room-of .ensures .0) (c .before .if2 .left) (omega arith) in
     (held .count .1, λ i l. omega (arith, held .leader i l, held .count), held .turns .1, within-buffer .0, within-buffer .1)
 
-add-t13 : tie.Need-add-t13
-add-t13 c = search needs
+add-t12 : tie.Need-add-t12
+add-t12 c = search needs
 
 same-length-2 : tie.Need-same-length-2
 same-length-2 c = search needs
@@ -105,7 +102,7 @@ pub write-opening-spec : {M : Type 1} → statement M
 write-opening-spec =
     tie.close
     (tie.spec
-    open-requires
+    opening-refusal-requires
     returns
     add-size
     add-size-2
@@ -115,6 +112,6 @@ write-opening-spec =
     same-length
     returns-2
     lay-opening-requires
-    add-t13
+    add-t12
     same-length-2
     returns-3)

@@ -7,11 +7,11 @@ use mathlib.Core.List.{List}
 use native.Mathlib.Omega.{arith}
 use lib.Dec.{eqb, ltb}
 use lib.ListN.{length, getD, length-set}
+use Rattle.quorum.specs.Enough.{enough}
 use Rattle.words.specs.Sums.{tally}
 use Rattle.words.specs.Digits.{digit}
 use Rattle.words.proofs.Tests.{and-both}
 use Rattle.register.specs.Tables.{parentIn, epochIn}
-use Rattle.register.specs.Views.{enough}
 use Rattle.register.specs.Searches.{soundBy}
 use Rattle.register.proofs.Searching.{Flagged, flag-next}
 use Rattle.register.proofs.notary.sound.Statement.{statement}

@@ -2,8 +2,9 @@
 use borrow.Author.Needs.{needs}
 use mathlib.Core.Path.{_≡_, sym, _∙_}
 use borrow.Author.Tests.{ne-eqb}
+use Rattle.quorum.specs.Opening.{openingRefusal}
 use Rattle.words.specs.Tests.{choose}
-use Rattle.register.specs.Opening.{openingRefusal, opening}
+use Rattle.register.specs.Opening.{opening}
 use Rattle.register.proofs.OpeningLaws.{accepted-schedule}
 use Rattle.register.proofs.table.Register.open.Statement.{statement}
 use Rattle.register.proofs.table.Register.open.Tie as tie

@@ -1,4 +1,4 @@
--- `register::opening::has_stray`: at each turn the leaders below i have been tested.
+-- `quorum::has_stray`: at each turn the leaders below i have been tested.
 use borrow.Author.Needs.{needs}
 use Prim.Native.Nat.{_-_, _≤_}
 use mathlib.Core.Path.{_≡_, refl}
@@ -7,9 +7,9 @@ use lib.Dec.{leb}
 use lib.ListN.{length, getD}
 use Rattle.words.specs.Tests.{any}
 use Rattle.words.proofs.Tests.{any-next}
-use Rattle.register.specs.Opening.{stray}
-use Rattle.register.proofs.opening.has_stray.Statement.{statement}
-use Rattle.register.proofs.opening.has_stray.Tie as tie
+use Rattle.quorum.specs.Opening.{stray}
+use Rattle.quorum.proofs.has_stray.Statement.{statement}
+use Rattle.quorum.proofs.has_stray.Tie as tie
 
 abbrev Inv-loop : tie.InvT-loop
 Inv-loop n schedule found₀ i₀ found i = (i ≤ length schedule) × (found ≡ any i (λ k. leb n (getD schedule k 0)))

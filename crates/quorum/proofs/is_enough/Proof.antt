@@ -1,13 +1,13 @@
--- `register::notary::is_enough` asks whether three times the members is at least twice n; there are at most n of them.
+-- `quorum::is_enough` asks whether three times the members is at least twice n; there are at most n of them.
 use borrow.Author.Needs.{needs}
 use Prim.Native.Nat.{ℕ}
 use native.Mathlib.Omega.{arith}
 use lib.Dec.{eqb}
 use Rattle.words.specs.Digits.{digit}
 use Rattle.words.proofs.Sums.{tally-not}
-use Rattle.register.specs.Views.{enough}
-use Rattle.register.proofs.notary.is_enough.Statement.{statement}
-use Rattle.register.proofs.notary.is_enough.Tie as tie
+use Rattle.quorum.specs.Enough.{enough}
+use Rattle.quorum.proofs.is_enough.Statement.{statement}
+use Rattle.quorum.proofs.is_enough.Tie as tie
 
 mul-result : tie.Need-mul-result
 mul-result c = search needs

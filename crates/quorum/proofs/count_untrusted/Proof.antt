@@ -1,4 +1,4 @@
--- `register::opening::count_untrusted`: the trusted and the untrusted offices are n together.
+-- `quorum::count_untrusted`: the trusted and the untrusted offices are n together.
 use borrow.Author.Needs.{needs}
 use Prim.Native.Nat.{_+_}
 use mathlib.Core.Path.{_≡_}
@@ -6,9 +6,9 @@ use native.Mathlib.Omega.{arith}
 use lib.Dec.{eqb}
 use Rattle.words.specs.Digits.{digit}
 use Rattle.words.proofs.Sums.{tally-not}
-use Rattle.register.specs.Opening.{untrusted}
-use Rattle.register.proofs.opening.count_untrusted.Statement.{statement}
-use Rattle.register.proofs.opening.count_untrusted.Tie as tie
+use Rattle.quorum.specs.Opening.{untrusted}
+use Rattle.quorum.proofs.count_untrusted.Statement.{statement}
+use Rattle.quorum.proofs.count_untrusted.Tie as tie
 
 members-requires : tie.Need-members-requires
 members-requires c κs = search needs

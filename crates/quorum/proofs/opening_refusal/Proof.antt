@@ -1,4 +1,4 @@
--- `register::opening::opening_refusal` answers the number of the first test that holds.
+-- `quorum::opening_refusal` answers the number of the first test that holds.
 use borrow.Author.Needs.{needs}
 use Prim.Native.Nat.{_*_}
 use mathlib.Core.Path.{_≡_, sym, _∙_}
@@ -8,10 +8,10 @@ use borrow.Author.Tests.{not-true, not-false, le-leb, lt-leb}
 use lib.ListN.{length}
 use Rattle.words.specs.Tests.{choose, between}
 use Rattle.words.specs.Refusals.{first}
-use Rattle.register.specs.Opening.{untrusted, tooMany, stray, openingRefusal}
-use Rattle.register.proofs.OpeningLaws.{untrusted-most}
-use Rattle.register.proofs.opening.opening_refusal.Statement.{statement}
-use Rattle.register.proofs.opening.opening_refusal.Tie as tie
+use Rattle.quorum.specs.Opening.{untrusted, tooMany, stray, openingRefusal}
+use Rattle.quorum.proofs.Untrusted.{untrusted-most}
+use Rattle.quorum.proofs.opening_refusal.Statement.{statement}
+use Rattle.quorum.proofs.opening_refusal.Tie as tie
 
 between-requires : tie.Need-between-requires
 between-requires c κs = search needs

@@ -1,0 +1,8 @@
+-- How many signers are enough.
+use Prim.Native.Nat.{ℕ, _*_}
+use mathlib.Core.Bool.{Bool}
+use lib.Dec.{leb}
+
+-- so many signers of n offices are enough: 3 × signers ≥ 2 × n
+unfoldable pub enough : (signers : ℕ) → (n : ℕ) → Bool
+enough signers n = leb (2 * n) (3 * signers)
