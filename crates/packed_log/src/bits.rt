@@ -31,11 +31,14 @@ fn window_at(log: &[u8], i: usize) -> u32
     byte_at(log, i) * 65536 + byte_at(log, i + 1) * 256 + byte_at(log, i + 2)
 }
 
-// The number in the `width` bits from position `at` on.
+// The number in the `width` bits from position `at` on; no bits are passed over at once.
 pub(crate) fn read_bits(log: &[u8], at: usize, width: usize) -> u16
     requires { ⌜ (width ≤ 16) × (at + width ≤ 8 * length (now log)) × (length (now log) ≤ 65536) ⌝ }
     ensures { λ r. ⌜ (r ≡ field (now (log .entry)) at width) × (r < 2 ^ width) ⌝ }
 {
+    if width == 0 {
+        return 0;
+    }
     let bits = window_at(log, at / 8);
     let behind = 24 - at % 8 - width;
     ((bits >> behind) % (1 << width)) as u16
