@@ -173,7 +173,7 @@ fn print_refusals() {
         write_opening(&mut buf, 3, 3, 3, b"\x00"),
     );
     print_wrote(
-        b"two leaders too many",
+        b"no room for an opening",
         write_opening(&mut buf, 3, 1, 1, b"\x00\x00\x00"),
     );
     print_wrote(

@@ -1,6 +1,6 @@
 // Fields of a log, most significant bit first: reading one, and writing one into a buffer.
 ghost use mathlib.Core.Path.{_≡_};
-ghost use Prim.Native.Nat.{_+_, _*_, _/_, _%_, _^_, _≤_, _<_, min};
+ghost use Prim.Native.Nat.{_+_, _*_, _-_, _/_, _%_, _^_, _≤_, _<_, min};
 ghost use lib.ListN.{length, getD, set};
 ghost use Rattle.packed_log.specs.Bits.{toBits, field, put};
 ghost use Rattle.packed_log.specs.Windows.{window, over};
@@ -10,6 +10,16 @@ pub(crate) fn shorter(a: usize, b: usize) -> usize
     ensures { λ r. ⌜ r ≡ min a b ⌝ }
 {
     if a < b { a } else { b }
+}
+
+// How many of `total` bits are left from position `at` on.
+pub(crate) fn left_from(total: usize, at: usize) -> usize
+    ensures { λ r. ⌜ r ≡ total - at ⌝ }
+{
+    if total < at {
+        return 0;
+    }
+    total - at
 }
 
 // Byte i of the log; 0 past its end.
@@ -31,7 +41,7 @@ fn window_at(log: &[u8], i: usize) -> u32
     byte_at(log, i) * 65536 + byte_at(log, i + 1) * 256 + byte_at(log, i + 2)
 }
 
-// The number in the `width` bits from position `at` on; no bits are passed over at once.
+// The number in the `width` bits from position `at` on, 0 where the width is 0.
 pub(crate) fn read_bits(log: &[u8], at: usize, width: usize) -> u16
     requires { ⌜ (width ≤ 16) × (at + width ≤ 8 * length (now log)) × (length (now log) ≤ 65536) ⌝ }
     ensures { λ r. ⌜ (r ≡ field (now (log .entry)) at width) × (r < 2 ^ width) ⌝ }

@@ -5,6 +5,7 @@ ghost use lib.ListN.{length};
 ghost use Rattle.packed_log.specs.Rows.{Within};
 ghost use Rattle.packed_log.specs.Widths.{due};
 ghost use Rattle.packed_log.specs.Items.{left, rowAt, padded, read, endAt, stepAt, kindAt, itemAt};
+use crate::bits::left_from;
 use crate::bits::read_bits;
 use crate::refusal;
 use crate::row::Row;
@@ -47,11 +48,7 @@ pub(crate) fn left_of(log: &[u8], at: usize) -> usize
     requires { ⌜ length (now log) ≤ 65536 ⌝ }
     ensures { λ r. ⌜ r ≡ left (now (log .entry)) at ⌝ }
 {
-    let total = 8 * log.len();
-    if total < at {
-        return 0;
-    }
-    total - at
+    left_from(8 * log.len(), at)
 }
 
 // The row whose kind has been read, with its fields from position `at` on.

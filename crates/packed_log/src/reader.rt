@@ -1,4 +1,5 @@
-// A reader, which keeps the lent log beside a position in it, for whoever reads a log item by item. It is thin: `read_item` does the work.
+// A reader, which keeps the lent log beside a position in it, for whoever reads a log item by item. It is thin:
+// `read_opening` and `read_item` do the work.
 ghost use mathlib.Core.Path.{_≡_};
 ghost use Rattle.packed_log.specs.Items.{itemAt};
 ghost use Rattle.packed_log.specs.Openings.{openingIn};

@@ -1,4 +1,4 @@
-// Writing a log into a buffer: an opening, one step or the end, each at a given position.
+// Writing a step or the end into a buffer, at a given position.
 ghost use mathlib.Core.Path.{_≡_};
 ghost use Prim.Native.Nat.{_+_, _*_, _-_, _^_, _≤_, _<_, min};
 ghost use lib.Dec.{leb};
@@ -7,6 +7,7 @@ ghost use Rattle.packed_log.specs.Bits.{put};
 ghost use Rattle.packed_log.specs.Rows.{Within};
 ghost use Rattle.packed_log.specs.Widths.{due};
 ghost use Rattle.packed_log.specs.Writing.{rowBits, stepBits, endBits, wide, stepRefused, endRefused, wrote, laid};
+use crate::bits::left_from;
 use crate::bits::shorter;
 use crate::bits::write_bits;
 use crate::item::LONGEST;
@@ -28,11 +29,7 @@ pub struct Wrote {
 pub(crate) fn room_of(buf: &[u8], at: usize) -> usize
     ensures { λ r. ⌜ (r ≡ 8 * min (length (now (buf .entry))) 65536 - at) × (r ≤ 524288) ⌝ }
 {
-    let total = 8 * shorter(buf.len(), LONGEST);
-    if total < at {
-        return 0;
-    }
-    total - at
+    left_from(8 * shorter(buf.len(), LONGEST), at)
 }
 
 // The number has no room in so many bits.

@@ -1,4 +1,4 @@
-// Words with one digit per office: a set of offices in base 2, the stages of a message in base 4.
+// Words with one digit per office: a set of offices in base 2, the stages of a message in base 4; and the test of a range.
 // No function asks anything of its caller: an office past the last digit of a word reads as 0, and raising it leaves the word as it is.
 ghost use mathlib.Core.Path.{_≡_};
 ghost use Prim.Native.Nat.{_%_, _^_, min};
