@@ -46,14 +46,16 @@ pub struct FinalEntry {
     pub block: u8,
 }
 
+// The refusal, a single byte, stands last: before a wider field it would share a word with padding, and a copy of that word would wait for
+// the byte.
 pub struct Change {
-    pub refusal: u8,
     pub value: u16,
     pub head: Head,
     pub block: BlockEntry,
     pub message: MessageEntry,
     pub place: PlaceEntry,
     pub ending: FinalEntry,
+    pub refusal: u8,
 }
 
 impl Change {
