@@ -2,12 +2,13 @@
 use Prim.Native.Nat.{ℕ, _+_, _<_, _≤_}
 use mathlib.Core.Path.{_≡_, sym, ap, _∙_}
 use mathlib.Core.Bool.{Bool, true, false, not}
+use mathlib.Core.Logic.{⊎-elim}
 use mathlib.Core.List.{List}
 use native.Mathlib.Omega.{arith}
 use native.Mathlib.Decide.{ℕ-discrete}
 use native.Mathlib.Nat.{zero-add}
 use native.Mathlib.Numerals.{add-one}
-use borrow.Author.Tests.{eq-eqb, ne-eqb, lt-ltb, le-ltb}
+use borrow.Author.Tests.{eq-eqb, ne-eqb, eqb-true, eqb-false, lt-ltb, le-ltb, ltb-true}
 use lib.Dec.{eqb, ltb}
 use lib.ListN.{length, getD, set, replicate, getD-replicate}
 use lib.Seq.{getD-set-same, getD-set-other}
@@ -15,14 +16,15 @@ use Rattle.quorum.specs.Enough.{enough}
 use Rattle.words.specs.Digits.{digit, fill}
 use Rattle.words.specs.Sums.{tally}
 use Rattle.words.specs.Tests.{choose, both, either, any, every}
-use Rattle.words.proofs.Tests.{any-same, both-all, both-none, either-none, every-both}
+use Rattle.words.proofs.Tests.{any-same, both-left, both-right, both-all, both-none, either-cases, either-false-left, either-none, every-both}
 use Rattle.words.proofs.Sums.{tally-ext}
 use Rattle.words.proofs.Digits.{bit-set, fill-ext}
+use Rattle.register.specs.declared.chain.Climb.{Climb}
 use Rattle.register.specs.declared.table.Register.{Register}
 use Rattle.register.specs.Tables.{trusted, parentIn, parentOf, epochIn, epochOf}
 use Rattle.register.specs.Views.{view, saysIn, signed, signedIn, signers, notarised}
 use Rattle.register.specs.Chains.{chainBy, chain, chainLength, valid, chainNotarised, longer, longest}
-use Rattle.register.specs.Searches.{setOf, notarisedIn, soundBy, soundIn, longerBy, longestBy}
+use Rattle.register.specs.Searches.{setOf, notarisedIn, soundBy, soundIn, soundFrom, climbed, longerBy, longestBy}
 use Rattle.register.proofs.Scans.{signed-in}
 use Rattle.register.proofs.Chains.{Down, chain-by-genesis, chain-by-step, climb-induction}
 
@@ -35,6 +37,30 @@ left parent sound beat climbed at = both (every sound (chainBy parent at)) (ltb 
 pub sound-genesis : (parent : ℕ → ℕ) (sound : ℕ → Bool) → every sound (chainBy parent 0) ≡ true
 unfolding every
 sound-genesis parent sound = rw (chain-by-genesis parent)
+
+-- a climb that meets a block that is not sound
+pub climbed-broken : (sound : ℕ → Bool) (chain : List ℕ) → every sound chain ≡ false
+    → record { sound = false; length = 0 } ≡ climbed sound chain
+unfolding climbed choose
+climbed-broken sound chain h = rw h
+
+-- a climb that meets none, and how many blocks it passed
+pub climbed-whole : (sound : ℕ → Bool) (chain : List ℕ) (passed : ℕ) → every sound chain ≡ true → passed ≡ length chain
+    → record { sound = true; length = passed } ≡ climbed sound chain
+unfolding climbed choose
+climbed-whole sound chain passed h e = rw (h, e)
+
+-- what a climb says of its chain
+module _ (sound : ℕ → Bool) (chain : List ℕ) (up : Climb) (e : up ≡ climbed sound chain) where
+  pub unsound-climb : up .sound ≡ false → every sound chain ≡ false
+  unfolding climbed
+  unsound-climb h = sym (ap (λ u. u .sound) e) ∙ h
+
+  pub sound-climb : up .sound ≡ true → (every sound chain ≡ true) × (length chain ≡ up .length)
+  unfolding climbed choose
+  sound-climb h =
+      let all-sound : every sound chain ≡ true = sym (ap (λ u. u .sound) e) ∙ h in
+      (all-sound, sym (rw all-sound at (ap (λ u. u .length) e)))
 
 module _ (parent : ℕ → ℕ) (down : Down parent) where
   -- the chain of any block but genesis is one longer than its parent's
@@ -75,11 +101,11 @@ module _ (parent : ℕ → ℕ) (down : Down parent) where
     longest-broken h = rw (← sound-same p q last same b l, h)
 
     -- a sound chain is longest where no block has a longer one
-    pub longest-searched : (beat : ℕ) (found : Bool) → every p (chainBy parent b) ≡ true → beat ≡ length (chainBy parent b)
+    pub longest-searched : (beat : ℕ) (found : Bool) → every p (chainBy parent b) ≡ true → length (chainBy parent b) ≡ beat
         → found ≡ any (last + 1) (longerBy parent p beat) → not found ≡ longestBy parent q last b
     unfolding longestBy longerBy both
     longest-searched beat found h e f =
-        rw (← sound-same p q last same b l, h, ← e, f, any-same (longerBy parent p beat) (longerBy parent q beat) (last + 1) (λ x k. rw (sound-same p q last same x (omega arith))))
+        rw (← sound-same p q last same b l, h, e, f, any-same (longerBy parent p beat) (longerBy parent q beat) (last + 1) (λ x k. rw (sound-same p q last same x (omega arith))))
 
   module _ (sound : ℕ → Bool) (beat : ℕ) where
     -- a block up to the length to beat is the last of no longer chain
@@ -111,11 +137,25 @@ module _ (parent : ℕ → ℕ) (down : Down parent) where
     unfolding left both
     left-broken climbed at h s = rw (sound-broken sound at h s)
 
-    -- or at genesis, with more blocks than were to beat
-    pub left-done : (climbed at : ℕ) → at ≡ 0 → beat < climbed + at → left parent sound beat climbed at ≡ true
+    -- or at genesis, with more blocks than were to beat, or, with any block passed, at a block whose chain is sound and as long as the one to
+    -- beat: the chain is longer
+    pub left-met : (b climbed at : ℕ) → every sound (chainBy parent b) ≡ true → length (chainBy parent b) ≡ beat → beat < climbed + at
+        → either (eqb at 0) (both (eqb at b) (ltb 0 climbed)) ≡ true → left parent sound beat climbed at ≡ true
     unfolding left both
-    left-done climbed at e h =
-        rw (e, sound-genesis parent sound, chain-by-genesis parent) (lt-ltb beat (climbed + 0) (omega arith))
+    left-met b climbed at s e h t =
+        ⊎-elim
+        (λ (genesis : eqb at 0 ≡ true).
+        rw (eqb-true at 0 genesis, sound-genesis parent sound, chain-by-genesis parent)
+        (lt-ltb beat (climbed + 0) (omega (arith, eqb-true at 0 genesis))))
+        (λ (known : both (eqb at b) (ltb 0 climbed) ≡ true).
+        let here : at ≡ b = eqb-true at b (both-left (eqb at b) (ltb 0 climbed) known) in
+        let passed : 0 < climbed = ltb-true 0 climbed (both-right (eqb at b) (ltb 0 climbed) known) in
+        rw (here, s) (lt-ltb beat (climbed + length (chainBy parent b)) (omega arith)))
+        (either-cases (eqb at 0) (both (eqb at b) (ltb 0 climbed)) t)
+
+-- a climb that has come to no such block is above genesis
+pub unmet-above : (b climbed at : ℕ) → either (eqb at 0) (both (eqb at b) (ltb 0 climbed)) ≡ false → 0 < at
+unmet-above b climbed at t = omega (arith, eqb-false at 0 (either-false-left (eqb at 0) (both (eqb at b) (ltb 0 climbed)) t))
 
 -- two tests that agree on the 32 offices make the same set
 set-ext : (p q : ℕ → Bool) → ((s : ℕ) → s < 32 → p s ≡ q s) → setOf p ≡ setOf q
@@ -148,38 +188,32 @@ module _ (places signers subjects : List ℕ) (q : ℕ) where
   unfolding signedIn any setOf fill choose
   gather-none b h = getD-replicate 256 b 0 0 h
 
-  -- one message more, about block x, whose set with the message's signer is w
-  pub gather-next : (m : ℕ) (sets : List ℕ) (x w : ℕ) → length sets ≡ 256 → x ≡ getD subjects m 0 → x < 256 → Gathered m sets
-      → w ≡ setOf (λ s. either (eqb (digit 2 (getD sets x 0) s) 1) (both (eqb (digit 4 (getD places m 0) q) view) (eqb (getD signers m 0) s)))
+  -- a message that is not in the view adds nobody
+  pub gather-past : (m : ℕ) (sets : List ℕ) → eqb (digit 4 (getD places m 0) q) view ≡ false → Gathered m sets → Gathered (m + 1) sets
+  unfolding both
+  gather-past m sets out h b l =
+      h b l ∙ set-ext (signed-below m b) (signed-below (m + 1) b) (λ s k. rw (signed-next m b s, out, either-none))
+
+  -- one that is there adds its signer to those of the block x that it is about
+  pub gather-next : (m : ℕ) (sets : List ℕ) (x w : ℕ) → length sets ≡ 256 → x ≡ getD subjects m 0 → x < 256
+      → eqb (digit 4 (getD places m 0) q) view ≡ true → Gathered m sets
+      → w ≡ setOf (λ s. either (eqb (digit 2 (getD sets x 0) s) 1) (eqb (getD signers m 0) s))
       → Gathered (m + 1) (set sets x w)
-  gather-next m sets x w whole about within h e b l =
+  unfolding both
+  gather-next m sets x w whole about within inside h e b l =
       elim (ℕ-discrete b x) as (λ _. getD (set sets x w) b 0 ≡ setOf (signed-below (m + 1) b)) [
         | yes here ↦ rw here
             (getD-set-same sets x w 0 (omega arith)
             ∙ e
             ∙ set-ext _ (signed-below (m + 1) x)
-            (λ s k. rw (signed-next m x s, eq-eqb (getD subjects m 0) x (sym about), both-all, h x within, in-set (signed-below m x) s k)))
+            (λ s k. rw (signed-next m x s, inside, eq-eqb (getD subjects m 0) x (sym about), both-all, h x within, in-set (signed-below m x) s k)))
         | no there ↦ getD-set-other sets x b w 0 there
             ∙ h b l
             ∙ set-ext (signed-below m b) (signed-below (m + 1) b)
-            (λ s k. rw (signed-next m b s, ne-eqb (getD subjects m 0) b (λ o. there (sym (about ∙ o))), both-none, both-none, either-none))
+            (λ s k. rw (signed-next m b s, inside, ne-eqb (getD subjects m 0) b (λ o. there (sym (about ∙ o))), both-none, either-none))
       ]
 
-module _ (p : ℕ → Bool) where
-  -- the flags say of each block from 1 to k whether the test holds
-  abbrev pub Flagged : (k : ℕ) → (flags : List Bool) → Type 0
-  Flagged k flags = (b : ℕ) → 0 < b → b ≤ k → getD flags b false ≡ p b
-
-  -- one block more
-  pub flag-next : (k : ℕ) (flags : List Bool) (t : Bool) → length flags ≡ 256 → k + 1 < 256 → Flagged k flags → t ≡ p (k + 1)
-      → Flagged (k + 1) (set flags (k + 1) t)
-  flag-next k flags t whole within h e b above l =
-      elim (ℕ-discrete b (k + 1)) as (λ _. getD (set flags (k + 1) t) b false ≡ p b) [
-        | yes here ↦ rw here (getD-set-same flags (k + 1) t false (omega arith) ∙ e)
-        | no there ↦ getD-set-other flags (k + 1) b t false there ∙ h b above (omega (arith, there))
-      ]
-
--- flags made from the sets that were gathered say which blocks are sound in office q's view
+-- the sets that were gathered say which blocks are sound in office q's view
 module _ (places signers subjects parents epochs : List ℕ) (count n last q : ℕ) (sets : List ℕ)
     (gathered : Gathered places signers subjects q count sets) (offices : n ≤ 32) where
   -- a block's signers are enough where it is notarised
@@ -194,9 +228,8 @@ module _ (places signers subjects parents epochs : List ℕ) (count n last q : �
 
   -- and the block is sound by them where it is by the tables
   pub sound-gathered : (b : ℕ) → 0 < b → b < 256
-      → soundBy (parentIn parents last) (epochIn epochs last) (λ x. enough (tally n (λ s. eqb (digit 2 (getD sets x 0) s) 1)) n) b
-      ≡ soundIn places signers subjects parents epochs count n last q b
-  unfolding soundIn soundBy
+      → soundFrom sets parents epochs last n b ≡ soundIn places signers subjects parents epochs count n last q b
+  unfolding soundIn soundFrom soundBy
   sound-gathered b above l = rw (enough-gathered b above l)
 
 -- a register's block is sound in a trusted office's view

@@ -4,11 +4,12 @@ use Prim.Native.Nat.{ℕ, _+_}
 use mathlib.Core.Bool.{Bool, not}
 use mathlib.Core.List.{List}
 use lib.Dec.{eqb, ltb}
-use lib.ListN.{length}
+use lib.ListN.{length, getD}
 use Rattle.quorum.specs.Enough.{enough}
 use Rattle.words.specs.Tests.{choose, both, either, any, every}
 use Rattle.words.specs.Sums.{tally}
-use Rattle.words.specs.Digits.{fill}
+use Rattle.words.specs.Digits.{digit, fill}
+use Rattle.register.specs.declared.chain.Climb.{Climb}
 use Rattle.register.specs.Tables.{parentIn, epochIn}
 use Rattle.register.specs.Views.{signedIn}
 use Rattle.register.specs.Chains.{chainBy}
@@ -30,6 +31,15 @@ soundBy parent epoch notarised x = both (ltb (epoch (parent x)) (epoch x)) (nota
 unfoldable pub soundIn : (places signers subjects parents epochs : List ℕ) → (count n last q : ℕ) → ℕ → Bool
 soundIn places signers subjects parents epochs count n last q =
     soundBy (parentIn parents last) (epochIn epochs last) (notarisedIn places signers subjects count n q)
+
+-- the same, by each block's set of signers in the view
+unfoldable pub soundFrom : (sets parents epochs : List ℕ) → (last n : ℕ) → ℕ → Bool
+soundFrom sets parents epochs last n =
+    soundBy (parentIn parents last) (epochIn epochs last) (λ x. enough (tally n (λ s. eqb (digit 2 (getD sets x 0) s) 1)) n)
+
+-- what a climb of a chain meets: whether it is of sound blocks alone, and then their number, else 0
+unfoldable pub climbed : (sound : ℕ → Bool) → (chain : List ℕ) → Climb
+climbed sound chain = record { sound = every sound chain; length = choose (every sound chain) (length chain) 0 }
 
 -- the chain of block x is of sound blocks alone, and has more than so many
 unfoldable pub longerBy : (parent : ℕ → ℕ) → (sound : ℕ → Bool) → (beat : ℕ) → ℕ → Bool

@@ -1,13 +1,15 @@
 // Chains of blocks, and the search for a longer one.
 ghost use mathlib.Core.Path.{_≡_};
-ghost use mathlib.Core.Bool.{false};
+ghost use mathlib.Core.Bool.{true};
 ghost use Prim.Native.Nat.{_+_, _≤_};
-ghost use lib.ListN.{getD, length};
-ghost use Rattle.words.specs.Tests.{any, every};
+ghost use lib.Dec.{eqb, ltb};
+ghost use lib.ListN.{length};
+ghost use Rattle.words.specs.Tests.{both, either, any, every};
 ghost use Rattle.register.specs.Tables.{parentIn};
 ghost use Rattle.register.specs.Chains.{chainBy};
-ghost use Rattle.register.specs.Searches.{soundIn, longerBy, longestBy};
-use crate::notary::sound_flags;
+ghost use Rattle.register.specs.Searches.{soundIn, soundFrom, climbed, longerBy, longestBy};
+use crate::notary::gather;
+use crate::scan::epoch_at;
 use crate::scan::parent_at;
 
 // The length of block b's chain, genesis not counted.
@@ -23,29 +25,78 @@ pub(crate) fn length_of<'a>(parents: &'a [u8; 256], last: u8, b: u8) -> u8
     climbed
 }
 
-// Every block of block b's chain is sound.
-pub(crate) fn is_sound<'a>(parents: &'a [u8; 256], sound: &'a [bool; 256], last: u8, b: u8) -> bool
-    ensures { λ r. ⌜ r ≡ every (λ y. getD (now (sound .entry)) y false) (chainBy (parentIn (now (parents .entry)) last) b) ⌝ }
+// Block b is sound by its signers that were gathered: its epoch is greater than its parent's, and they are enough.
+fn is_sound<'a>(
+    sets: &'a [u32; 256],
+    parents: &'a [u8; 256],
+    epochs: &'a [u16; 256],
+    last: u8,
+    n: u8,
+    b: u8,
+) -> bool
+    ensures { λ r. ⌜ r ≡ soundFrom (now (sets .entry)) (now (parents .entry)) (now (epochs .entry)) last n b ⌝ }
 {
-    let mut at = b;
-    while at > 0 {
-        if !sound[at as usize] {
-            return false;
-        }
-        at = parent_at(parents, last, at);
-    }
-    true
+    let parent = parent_at(parents, last, b);
+    let later = epoch_at(epochs, last, parent) < epoch_at(epochs, last, b);
+    later & quorum::is_enough(sets[b as usize], n)
 }
 
-// Some block's chain is of sound blocks alone and longer than the length to beat. A chain is no longer than its last block's number: so
-// the walk starts past the length to beat, and a climb ends where what is left of it cannot be enough.
-pub(crate) fn has_longer<'a>(
+// What a climb from a block to genesis meets: whether every block of the chain is sound, and then how many they are, else 0.
+pub(crate) struct Climb {
+    pub sound: bool,
+    pub length: u8,
+}
+
+// Climbs block b's chain, up to genesis or to the first block that is not sound.
+fn climb_chain<'a>(
+    sets: &'a [u32; 256],
     parents: &'a [u8; 256],
-    sound: &'a [bool; 256],
+    epochs: &'a [u16; 256],
     last: u8,
+    n: u8,
+    b: u8,
+) -> Climb
+    ensures { λ r. ⌜ r ≡ climbed (soundFrom (now (sets .entry)) (now (parents .entry)) (now (epochs .entry)) last n) (chainBy (parentIn (now (parents .entry)) last) b) ⌝ }
+{
+    let mut climbed = 0;
+    let mut at = b;
+    while at > 0 {
+        if !is_sound(sets, parents, epochs, last, n, at) {
+            return Climb {
+                sound: false,
+                length: 0,
+            };
+        }
+        climbed += 1;
+        at = parent_at(parents, last, at);
+    }
+    Climb {
+        sound: true,
+        length: climbed,
+    }
+}
+
+// A climb has come to genesis, or past another block to block b.
+fn is_met(at: u8, b: u8, climbed: u8) -> bool
+    ensures { λ r. ⌜ r ≡ either (eqb at 0) (both (eqb at b) (ltb 0 climbed)) ⌝ }
+{
+    (at == 0) | ((at == b) & (0 < climbed))
+}
+
+// Some block's chain is of sound blocks alone and longer than block b's, which is of sound blocks alone and so long. A chain is no longer
+// than its last block's number: so the walk starts past the length to beat, and a climb ends where what is left of it cannot be enough. A
+// climb that comes down to block b is of a longer chain, and need not go on to genesis.
+fn has_longer<'a>(
+    sets: &'a [u32; 256],
+    parents: &'a [u8; 256],
+    epochs: &'a [u16; 256],
+    last: u8,
+    n: u8,
+    b: u8,
     beat: u8,
 ) -> bool
-    ensures { λ r. ⌜ r ≡ any (last + 1) (longerBy (parentIn (now (parents .entry)) last) (λ y. getD (now (sound .entry)) y false) beat) ⌝ }
+    requires { ⌜ (every (soundFrom (now sets) (now parents) (now epochs) last n) (chainBy (parentIn (now parents) last) b) ≡ true) × (length (chainBy (parentIn (now parents) last) b) ≡ beat) ⌝ }
+    ensures { λ r. ⌜ r ≡ any (last + 1) (longerBy (parentIn (now (parents .entry)) last) (soundFrom (now (sets .entry)) (now (parents .entry)) (now (epochs .entry)) last n) beat) ⌝ }
 {
     let mut found = false;
     let mut x = beat;
@@ -54,11 +105,11 @@ pub(crate) fn has_longer<'a>(
         let mut climbed = 0;
         let mut at = x;
         'climb: while beat < climbed + at {
-            if at == 0 {
+            if is_met(at, b, climbed) {
                 found = true;
                 break 'walk;
             }
-            if !sound[at as usize] {
+            if !is_sound(sets, parents, epochs, last, n, at) {
                 break 'climb;
             }
             climbed += 1;
@@ -84,18 +135,9 @@ pub(crate) fn is_notarised<'a>(
     requires { ⌜ (count ≤ 1024) × (n ≤ 32) × (b ≤ last) ⌝ }
     ensures { λ r. ⌜ r ≡ every (soundIn (now (places .entry)) (now (signers .entry)) (now (subjects .entry)) (now (parents .entry)) (now (epochs .entry)) count n last q) (chainBy (parentIn (now (parents .entry)) last) b) ⌝ }
 {
-    let sound = sound_flags(
-        n,
-        last,
-        count,
-        places,
-        signers,
-        subjects,
-        parents,
-        epochs,
-        q,
-    );
-    is_sound(parents, &sound, last, b)
+    let sets = gather(places, signers, subjects, count, q);
+    let up = climb_chain(&sets, parents, epochs, last, n, b);
+    up.sound
 }
 
 // The chain of block b is notarised in office q's view, and no notarised chain of that view is longer.
@@ -114,19 +156,10 @@ pub(crate) fn is_longest<'a>(
     requires { ⌜ (count ≤ 1024) × (n ≤ 32) × (b ≤ last) ⌝ }
     ensures { λ r. ⌜ r ≡ longestBy (parentIn (now (parents .entry)) last) (soundIn (now (places .entry)) (now (signers .entry)) (now (subjects .entry)) (now (parents .entry)) (now (epochs .entry)) count n last q) last b ⌝ }
 {
-    let sound = sound_flags(
-        n,
-        last,
-        count,
-        places,
-        signers,
-        subjects,
-        parents,
-        epochs,
-        q,
-    );
-    if !is_sound(parents, &sound, last, b) {
+    let sets = gather(places, signers, subjects, count, q);
+    let up = climb_chain(&sets, parents, epochs, last, n, b);
+    if !up.sound {
         return false;
     }
-    !has_longer(parents, &sound, last, length_of(parents, last, b))
+    !has_longer(&sets, parents, epochs, last, n, b, up.length)
 }

@@ -3,13 +3,14 @@ use Prim.Native.Nat.{ℕ, zero, suc, _+_, _-_, _*_, _/_, _%_, _^_, _≤_, _<_, m
 use mathlib.Core.Path.{_≡_, refl, sym, ap, _∙_}
 use mathlib.Core.Bool.{Bool, true, false}
 use mathlib.Core.Logic.{⊎-elim}
-use native.Mathlib.Nat.{add-comm, add-mul, add-zero, eq-or-lt-of-le, lt-of-lt-of-le, mul-assoc, mul-comm, mul-zero, one-le-pow, one-mul, pow-le-pow-right, pow-suc, pow-succ', pow-zero, zero-add, zero-mul}
+use native.Mathlib.Nat.{add-comm, add-mul, add-zero, eq-of-mul-eq-mul-right, eq-or-lt-of-le, lt-of-lt-of-le, mul-assoc, mul-comm, mul-zero, one-le-pow, one-mul, pow-le-pow-right, pow-suc, pow-succ', pow-zero, zero-add, zero-mul}
 use native.Mathlib.Nat.{add-div-right, add-mod-mod, add-mul-div-right, add-mul-mod-self-right, div-add-mod', div-div-eq-div-mul, div-eq-of-lt, div-lt-iff-lt-mul, mod-add-mod, mod-eq-of-lt, mod-lt, mod-one, mul-mod-right, zero-div, zero-mod}
 use native.Mathlib.Decide.{ℕ-discrete, decLt, decLe, le-ind}
 use native.Mathlib.Numerals.{add-one}
 use native.Mathlib.Omega.{arith}
 use borrow.Author.Tests.{eq-eqb, eqb-false, ne-eqb}
 use lib.Arith.{digits-lt, digits-div, mod-mul}
+use lib.Bits.{bitAnd, bitOr, and-high, or-lt, or-mod, or-shr, or-zero-l}
 use lib.Count.{ones, onesIn, ones-cat}
 use lib.Dec.{eqb}
 use lib.Pow.{pow-add}
@@ -143,6 +144,14 @@ pow-past b q n h =
     let split : b ^ q ≡ b ^ n * b ^ (q - n) = ap (λ (x : ℕ). b ^ x) e ∙ pow-add b n (q - n) in
     rw (split, mul-mod-right)
 
+-- two multiples are equal where the numbers are
+eqb-mul : (d e p : ℕ) → 0 < p → eqb (d * p) (e * p) ≡ eqb d e
+eqb-mul d e p pos =
+    elim (ℕ-discrete d e) as (λ _. eqb (d * p) (e * p) ≡ eqb d e) [
+      | yes same ↦ rw (same, eq-eqb (e * p) (e * p) refl, eq-eqb e e refl)
+      | no other ↦ rw (ne-eqb d e other) (ne-eqb (d * p) (e * p) (λ same. other (eq-of-mul-eq-mul-right p pos d e same)))
+    ]
+
 -- a digit of base 4 takes two of base 2
 pub four-pow : (q : ℕ) → 4 ^ q ≡ 2 ^ (2 * q)
 four-pow zero = refl
@@ -249,26 +258,52 @@ bit-raise w q k room =
       | no d ↦ rw (digit-raise-other 2 w q k room d, ne-eqb q k (λ e. d (sym e)), either-none)
     ]
 
-module _ (n w q : ℕ) (fit : w < 2 ^ n) where
-  -- the set of n bits with one more number; a number from n up leaves it as it is
-  pub set-raise : eqb (digit 2 w q) 1 ≡ false → raise 2 w q % 2 ^ n ≡ fill 2 n (λ k. choose (either (eqb (digit 2 w k) 1) (eqb q k)) 1 0)
-  unfolding raise
-  set-raise none =
-      let room : digit 2 w q + 1 < 2 = omega (arith, digit-lt 2 w q (omega arith), eqb-false (digit 2 w q) 1 none) in
-      elim (decLt q n) as (λ _. raise 2 w q % 2 ^ n ≡ fill 2 n (λ k. choose (either (eqb (digit 2 w k) 1) (eqb q k)) 1 0)) [
-        | yes h ↦ let more : raise 2 w q < 2 ^ n = raise-lt 2 w q n room h fit in
-            mod-eq-of-lt more ∙ set-of-bits n (raise 2 w q) (λ k. either (eqb (digit 2 w k) 1) (eqb q k)) more (λ k l. bit-raise w q k room)
-        | no h ↦ rw (← add-mod-mod, pow-past 2 q n (omega arith), add-zero, mod-eq-of-lt fit)
-            (set-of-bits n w (λ k. either (eqb (digit 2 w k) 1) (eqb q k)) fit
-            (λ k l. rw (ne-eqb q k (omega arith), either-none)))
-      ]
+-- the only number in the set of a power is its place, where that is below n
+bit-only : (n q k : ℕ) → k < n → eqb (digit 2 (2 ^ q % 2 ^ n) k) 1 ≡ eqb q k
+unfolding raise either
+bit-only n q k l =
+    elim (decLt q n) as (λ _. eqb (digit 2 (2 ^ q % 2 ^ n) k) 1 ≡ eqb q k) [
+      | yes h ↦ rw (pow-within 2 q n (omega arith) h)
+          (rw (zero-add, digit-zero) at (bit-raise 0 q k (omega (arith, digit-zero 2 q))))
+      | no h ↦ rw (pow-past 2 q n (omega arith), digit-zero, ne-eqb q k (omega arith))
+    ]
 
-  -- a number that is in the set already changes nothing
-  pub set-kept : eqb (digit 2 w q) 1 ≡ true → w ≡ fill 2 n (λ k. choose (either (eqb (digit 2 w k) 1) (eqb q k)) 1 0)
-  set-kept in-set =
-      set-of-bits n w (λ k. either (eqb (digit 2 w k) 1) (eqb q k)) fit
-      (λ k l.
-      elim (ℕ-discrete k q) as (λ _. eqb (digit 2 w k) 1 ≡ either (eqb (digit 2 w k) 1) (eqb q k)) [
-        | yes e ↦ rw (e, in-set) (sym (either-left true (eqb q q) refl))
-        | no d ↦ rw (ne-eqb q k (λ e. d (sym e)), either-none)
-      ])
+-- two bits joined
+or-bits : (d e : ℕ) → d < 2 → e < 2 → eqb (bitOr d e) 1 ≡ either (eqb d 1) (eqb e 1)
+unfolding either
+or-bits zero e h l = rw (or-zero-l e)
+or-bits (suc zero) zero h l = refl
+or-bits (suc zero) (suc zero) h l = refl
+or-bits (suc zero) (suc (suc e)) h l = absurd (omega arith)
+or-bits (suc (suc d)) e h l = absurd (omega arith)
+
+-- a number is in two sets joined where it is in one of them
+bit-or : (w v k : ℕ) → eqb (digit 2 (bitOr w v) k) 1 ≡ either (eqb (digit 2 w k) 1) (eqb (digit 2 v k) 1)
+unfolding digit
+bit-or w v k =
+    rw (or-shr w v k, or-mod (w / 2 ^ k) (v / 2 ^ k) 1)
+    (or-bits (w / 2 ^ k % 2) (v / 2 ^ k % 2) (mod-lt (w / 2 ^ k) (omega arith)) (mod-lt (v / 2 ^ k) (omega arith)))
+
+-- the set of n bits with a number put in; a number from n up leaves it as it is
+pub set-with : (n w q : ℕ) → w < 2 ^ n → bitOr w (2 ^ q % 2 ^ n) ≡ fill 2 n (λ k. choose (either (eqb (digit 2 w k) 1) (eqb q k)) 1 0)
+set-with n w q fit =
+    set-of-bits n (bitOr w (2 ^ q % 2 ^ n)) (λ k. either (eqb (digit 2 w k) 1) (eqb q k))
+    (or-lt n w (2 ^ q % 2 ^ n) fit (mod-lt (2 ^ q) (one-le-pow n 2 (omega arith))))
+    (λ k l. rw (bit-or w (2 ^ q % 2 ^ n) k, bit-only n q k l))
+
+-- the digit 3 of base 4 at a place within a word
+last-within : (q n : ℕ) → q < n → 3 * 2 ^ (2 * q) % 4 ^ n ≡ 3 * 4 ^ q
+last-within q n h =
+    let pos : 0 < 4 ^ q = one-le-pow q 4 (omega arith) in
+    let next : 3 * 4 ^ q < 4 ^ suc q = rw (pow-suc 4 q) (omega arith) in
+    rw (← four-pow q) (mod-eq-of-lt (lt-of-lt-of-le next (pow-le-pow-right (omega arith) h)))
+
+-- the two bits of a digit of base 4, looked at in place, are both 1 where the digit is 3
+pub last-digit : (w q n m : ℕ) → q < n → m ≡ 3 * 2 ^ (2 * q) % 4 ^ n → eqb (bitAnd w m) m ≡ eqb (digit 4 w q) 3
+unfolding digit
+last-digit w q n m h e =
+    let pos : 0 < 4 ^ q = one-le-pow q 4 (omega arith) in
+    let last : m ≡ 3 * 4 ^ q = e ∙ last-within q n h in
+    let mask : 3 * 4 ^ q ≡ 2 ^ (2 + 2 * q) - 2 ^ (2 * q) = rw (four-pow q, pow-add 2 2 (2 * q)) (omega arith) in
+    let inside : bitAnd w m ≡ w / 4 ^ q % 4 * 4 ^ q = ap (bitAnd w) (last ∙ mask) ∙ and-high w 2 (2 * q) ∙ rw (four-pow q) in
+    rw (inside, last) (eqb-mul (w / 4 ^ q % 4) 3 (4 ^ q) pos)

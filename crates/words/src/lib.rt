@@ -3,7 +3,7 @@
 ghost use mathlib.Core.Path.{_≡_};
 ghost use Prim.Native.Nat.{_%_, _^_, min};
 ghost use lib.Dec.{eqb};
-ghost use Rattle.words.specs.Tests.{between};
+ghost use Rattle.words.specs.Tests.{choose, either, between};
 ghost use Rattle.words.specs.Digits.{digit, raise, fill};
 ghost use Rattle.words.specs.Sums.{tally};
 
@@ -34,6 +34,17 @@ pub fn stage(word: u64, q: u8) -> u8
     ((word >> (2 * q)) % 4) as u8
 }
 
+// Office q is at stage 3, the last. Both bits of the digit are looked at in place, which costs less than to move it down.
+pub fn is_last_stage(word: u64, q: u8) -> bool
+    ensures { λ r. ⌜ r ≡ eqb (digit 4 word q) 3 ⌝ }
+{
+    if q >= 32 {
+        return false;
+    }
+    let last = 3 << (2 * q);
+    word & last == last
+}
+
 // The set of office q alone; empty where a set has no such digit.
 fn only_bit(q: u8) -> u32
     ensures { λ r. ⌜ r ≡ 2 ^ q % 2 ^ 32 ⌝ }
@@ -59,6 +70,13 @@ pub fn with_bit(set: u32, q: u8) -> u32
     ensures { λ r. ⌜ r ≡ raise 2 set q % 2 ^ 32 ⌝ }
 {
     std::num::wrapping_add_u32(set, only_bit(q))
+}
+
+// The set with office q in it; where a set has no such digit, the set as it is.
+pub fn with_member(set: u32, q: u8) -> u32
+    ensures { λ r. ⌜ r ≡ fill 2 32 (λ k. choose (either (eqb (digit 2 set k) 1) (eqb q k)) 1 0) ⌝ }
+{
+    set | only_bit(q)
 }
 
 // The word with one more in the digit of office q.

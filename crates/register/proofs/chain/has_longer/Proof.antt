@@ -8,35 +8,34 @@ use mathlib.Core.List.{List}
 use native.Mathlib.Omega.{arith}
 use borrow.Author.Count.{below-more}
 use borrow.Author.Tests.{not-true, not-false}
-use lib.ListN.{getD}
 use Rattle.words.proofs.Tests.{any-fails, any-make}
 use Rattle.register.specs.Tables.{parentIn}
-use Rattle.register.specs.Searches.{longerBy}
+use Rattle.register.specs.Searches.{soundFrom, longerBy}
 use Rattle.register.proofs.Chains.{parent-in-lt}
-use Rattle.register.proofs.Searching.{left, left-start, left-next, left-short, left-broken, left-done, longer-past}
+use Rattle.register.proofs.Searching.{left, left-start, left-next, left-short, left-broken, left-met, unmet-above, longer-past}
 use Rattle.register.proofs.chain.has_longer.Statement.{statement}
 use Rattle.register.proofs.chain.has_longer.Tie as tie
 
 -- block k's chain is sound and longer, by the columns that the code reads
-abbrev Longer : (parents : List ℕ) → (sound : List Bool) → (last beat : ℕ) → ℕ → Bool
-Longer parents sound last beat = longerBy (parentIn parents last) (λ y. getD sound y false) beat
+abbrev Longer : (sets parents epochs : List ℕ) → (last n beat : ℕ) → ℕ → Bool
+Longer sets parents epochs last n beat = longerBy (parentIn parents last) (soundFrom sets parents epochs last n) beat
 
 abbrev Inv-climb : tie.InvT-climb
-Inv-climb parents sound last beat found₀ x climbed₀ at₀ found climbed at =
+Inv-climb sets parents epochs last n b beat found₀ x climbed₀ at₀ found climbed at =
     (climbed + at ≤ x)
     × (found ≡ false)
-    × ((k : ℕ) → k < x → Longer parents sound last beat k ≡ false)
-    × (Longer parents sound last beat x ≡ left (parentIn parents last) (λ y. getD sound y false) beat climbed at)
+    × ((k : ℕ) → k < x → Longer sets parents epochs last n beat k ≡ false)
+    × (Longer sets parents epochs last n beat x ≡ left (parentIn parents last) (soundFrom sets parents epochs last n) beat climbed at)
 
 abbrev μ-climb : tie.MeasureT-climb
-μ-climb parents sound last beat found₀ x climbed₀ at₀ found climbed at = at
+μ-climb sets parents epochs last n b beat found₀ x climbed₀ at₀ found climbed at = at
 
 abbrev Inv-walk : tie.InvT-walk
-Inv-walk parents sound last beat found₀ x₀ found x =
-    (beat ≤ x) × (found ≡ false) × ((k : ℕ) → k < x + 1 → Longer parents sound last beat k ≡ false)
+Inv-walk sets parents epochs last n b beat found₀ x₀ found x =
+    (beat ≤ x) × (found ≡ false) × ((k : ℕ) → k < x + 1 → Longer sets parents epochs last n beat k ≡ false)
 
 abbrev μ-walk : tie.MeasureT-walk
-μ-walk parents sound last beat found₀ x₀ found x = last - x
+μ-walk sets parents epochs last n b beat found₀ x₀ found x = last - x
 
 walk-holds : tie.Need-walk-holds Inv-climb μ-climb Inv-walk μ-walk
 walk-holds c = (search needs, refl, λ k l. longer-past _ (parent-in-lt _ _) _ _ k (omega arith))
@@ -61,49 +60,58 @@ walk-again c =
       below-more _ _ (turn .inv .2) (turn .inv .3 ∙ left-short _ (parent-in-lt _ _) _ _ _ _ (c .climb-test .left)),
     )
 
-cast-if2 : tie.Need-cast-if2 Inv-climb μ-climb Inv-walk μ-walk
-cast-if2 c = search needs
+-- a climb that goes on is above genesis
+above-genesis : (c : tie.Else1 Inv-climb μ-climb Inv-walk μ-walk) → 0 < c .before .before .before .climb .at
+above-genesis c =
+    let at-climb = c .before .before .before in
+    unmet-above (at-climb .before .before .before .args .b) (at-climb .climb .climbed) (at-climb .climb .at) (sym (c .before .is-met .ensures) ∙ c .if1 .left)
 
-element-copy-out-if2 : tie.Need-element-copy-out-if2 Inv-climb μ-climb Inv-walk μ-walk
-element-copy-out-if2 c = search needs
+is-met-requires : tie.Need-is-met-requires Inv-climb μ-climb Inv-walk μ-walk
+is-met-requires c κs = search needs
+
+is-sound-requires : tie.Need-is-sound-requires Inv-climb μ-climb Inv-walk μ-walk
+is-sound-requires c κs = search needs
 
 walk-less-2 : tie.Need-walk-less-2 Inv-climb μ-climb Inv-walk μ-walk
-walk-less-2 c = search needs
+walk-less-2 c = omega arith
 
 walk-again-2 : tie.Need-walk-again-2 Inv-climb μ-climb Inv-walk μ-walk
 walk-again-2 c =
-    let turn = c .before .before .before .before .climb in
-    let above : 0 < turn .at = omega (arith, c .before .before .if1 .left) in (
-      search needs,
+    let at-sound = c .before in
+    let at-if1 = at-sound .before in
+    let at-met = at-if1 .before in
+    let turn = at-met .before .before .climb in
+    let above : 0 < turn .at = above-genesis at-if1 in (
+      omega arith,
       turn .inv .1,
-      below-more _ _ (turn .inv .2) (turn .inv .3 ∙ left-broken _ (parent-in-lt _ _) _ _ _ _ above (not-true _ (c .if2 .taken))),
+      below-more _ _ (turn .inv .2) (turn .inv .3 ∙ left-broken _ (parent-in-lt _ _) _ _ _ _ above (sym (at-sound .is-sound .ensures) ∙ not-true _ (c .if2 .taken))),
     )
 
 add-climbed : tie.Need-add-climbed Inv-climb μ-climb Inv-walk μ-walk
-add-climbed c = search needs
+add-climbed c = omega (arith, above-genesis (c .before .before))
 
 parent-at-requires : tie.Need-parent-at-requires Inv-climb μ-climb Inv-walk μ-walk
 parent-at-requires c κs = search needs
 
 climb-less : tie.Need-climb-less Inv-climb μ-climb Inv-walk μ-walk
-climb-less c = rw (c .parent-at .ensures) (parent-in-lt _ _ _ (omega (arith, c .before .before .before .if1 .left)))
+climb-less c = rw (c .parent-at .ensures) (parent-in-lt _ _ _ (above-genesis (c .before .before .before)))
 
 climb-again : tie.Need-climb-again Inv-climb μ-climb Inv-walk μ-walk
 climb-again c =
-    let at-if1 = c .before .before .before in
-    let at-climb = at-if1 .before .before in
-    let entry = at-climb .before .before .before in
-    let a = entry .args in
+    let at-sound = c .before .before in
+    let at-if1 = at-sound .before in
+    let at-climb = at-if1 .before .before .before in
+    let a = at-climb .before .before .before .args in
     let parents : List ℕ = a .parents .now in
     let last : ℕ = a .last in
     let turn = at-climb .climb in
     let at : ℕ = turn .at in
-    let above : 0 < at = omega (arith, at-if1 .if1 .left) in
+    let above : 0 < at = above-genesis at-if1 in
     rw (c .parent-at .ensures) (
       omega (arith, parent-in-lt parents last at above),
       turn .inv .1,
       turn .inv .2,
-      turn .inv .3 ∙ left-next _ (parent-in-lt parents last) _ _ _ at above (not-false _ (c .before .if2 .left)),
+      turn .inv .3 ∙ left-next _ (parent-in-lt parents last) _ _ _ at above (sym (at-sound .is-sound .ensures) ∙ not-false _ (c .before .if2 .left)),
     )
 
 returns : tie.Need-returns Inv-climb μ-climb Inv-walk μ-walk
@@ -111,10 +119,15 @@ returns c = c .before .walk .inv .1 ∙ sym (any-fails _ _ (λ k l. c .before .w
 
 returns-2 : tie.Need-returns-2 Inv-climb μ-climb Inv-walk μ-walk
 returns-2 c =
-    let turn = c .before .before .climb in
+    let at-met = c .before in
+    let at-climb = at-met .before .before in
+    let entry = at-climb .before .before .before in
+    let turn = at-climb .climb in
     sym
-    (any-make _ _ (c .before .before .before .before .walk .x + 1) (omega arith)
-    (turn .inv .3 ∙ left-done _ (parent-in-lt _ _) _ _ _ _ (c .if1 .taken) (c .before .climb-test .taken)))
+    (any-make _ _ (at-climb .before .before .walk .x + 1) (omega arith)
+    (turn .inv .3
+    ∙ left-met _ (parent-in-lt _ _) _ _ (entry .args .b) (turn .climbed) (turn .at) (entry .pre .0) (entry .pre .1) (at-met .before .climb-test .taken)
+    (sym (at-met .is-met .ensures) ∙ c .if1 .taken)))
 
 pub has-longer-spec : {M : Type 1} → statement M
 has-longer-spec =
@@ -130,8 +143,8 @@ has-longer-spec =
     add-climb
     walk-less
     walk-again
-    cast-if2
-    element-copy-out-if2
+    is-met-requires
+    is-sound-requires
     walk-less-2
     walk-again-2
     add-climbed

@@ -1,21 +1,46 @@
--- `register::notary::gather`: at each turn the sets hold the signers of the messages below m.
+-- `register::notary::gather`: at each turn the sets hold the signers of the messages below the next.
 use borrow.Author.Needs.{needs}
 use Prim.Native.Nat.{_-_, _≤_}
-use mathlib.Core.Path.{_≡_, refl, _∙_}
+use mathlib.Core.Path.{_≡_, refl, sym, _∙_}
 use native.Mathlib.Omega.{arith}
+use borrow.Author.Tests.{not-true, not-false}
 use lib.ListN.{length, length-set}
-use Rattle.register.proofs.Searching.{Gathered, gather-none, gather-next}
+use Rattle.register.specs.Searches.{setOf}
+use Rattle.register.proofs.Searching.{Gathered, gather-none, gather-past, gather-next}
 use Rattle.register.proofs.notary.gather.Statement.{statement}
 use Rattle.register.proofs.notary.gather.Tie as tie
 
 abbrev Inv-loop : tie.InvT-loop
-Inv-loop places signers subjects count q sets₀ m₀ sets m = (m ≤ count) × (length sets ≡ 256) × Gathered places signers subjects q m sets
+Inv-loop places signers subjects count q sets₀ next₀ sets next = (next ≤ count) × (length sets ≡ 256) × Gathered places signers subjects q next sets
 
 abbrev μ-loop : tie.MeasureT-loop
-μ-loop places signers subjects count q sets₀ m₀ sets m = count - m
+μ-loop places signers subjects count q sets₀ next₀ sets next = count - next
 
 loop-holds : tie.Need-loop-holds Inv-loop μ-loop
 loop-holds c = (search needs, refl, gather-none _ _ _ _)
+
+add-next : tie.Need-add-next Inv-loop μ-loop
+add-next c = search needs
+
+mul-is-last-stage : tie.Need-mul-is-last-stage Inv-loop μ-loop
+mul-is-last-stage c = search needs
+
+element-copy-out-is-last-stage : tie.Need-element-copy-out-is-last-stage Inv-loop μ-loop
+element-copy-out-is-last-stage c = search needs
+
+is-last-stage-requires : tie.Need-is-last-stage-requires Inv-loop μ-loop
+is-last-stage-requires c κs = search needs
+
+loop-less : tie.Need-loop-less Inv-loop μ-loop
+loop-less c = search needs
+
+loop-again : tie.Need-loop-again Inv-loop μ-loop
+loop-again c =
+    let turn = c .before .before .before .before .loop in (
+      search needs,
+      turn .inv .1,
+      gather-past _ _ _ _ _ (turn .sets) (sym (c .before .is-last-stage .ensures) ∙ not-true _ (c .if1 .taken)) (turn .inv .2),
+    )
 
 entry-requires : tie.Need-entry-requires Inv-loop μ-loop
 entry-requires c κs = search needs
@@ -23,54 +48,43 @@ entry-requires c κs = search needs
 index-requires : tie.Need-index-requires Inv-loop μ-loop
 index-requires c κs = search needs
 
-mul-entered : tie.Need-mul-entered Inv-loop μ-loop
-mul-entered c = omega arith
+mul-with-member : tie.Need-mul-with-member Inv-loop μ-loop
+mul-with-member c = search needs
 
-array-read-entered : tie.Need-array-read-entered Inv-loop μ-loop
-array-read-entered c = omega arith
-
-mul-stage : tie.Need-mul-stage Inv-loop μ-loop
-mul-stage c = search needs
-
-element-copy-out-stage : tie.Need-element-copy-out-stage Inv-loop μ-loop
-element-copy-out-stage c = search needs
-
-stage-requires : tie.Need-stage-requires Inv-loop μ-loop
-stage-requires c κs = search needs
+array-read-with-member : tie.Need-array-read-with-member Inv-loop μ-loop
+array-read-with-member c = omega arith
 
 entry-requires-2 : tie.Need-entry-requires-2 Inv-loop μ-loop
-entry-requires-2 c κs = search needs
+entry-requires-2 c κs = omega arith
 
-entered-requires : tie.Need-entered-requires Inv-loop μ-loop
-entered-requires c κs = search needs
+with-member-requires : tie.Need-with-member-requires Inv-loop μ-loop
+with-member-requires c κs = search needs
 
 mul-sets : tie.Need-mul-sets Inv-loop μ-loop
-mul-sets c = omega arith
+mul-sets c = search needs
 
 array-write-sets : tie.Need-array-write-sets Inv-loop μ-loop
 array-write-sets c = omega arith
 
-add-m : tie.Need-add-m Inv-loop μ-loop
-add-m c = search needs
+loop-less-2 : tie.Need-loop-less-2 Inv-loop μ-loop
+loop-less-2 c = omega arith
 
-loop-less : tie.Need-loop-less Inv-loop μ-loop
-loop-less c = search needs
-
-loop-again : tie.Need-loop-again Inv-loop μ-loop
-loop-again c =
-    let at-stage = c .before .before in
-    let at-index = at-stage .before .before in
-    let at-loop = at-index .before .before .before in
-    let turn = at-loop .loop in
-    let index = at-index .index in (
-      search needs,
+loop-again-2 : tie.Need-loop-again-2 Inv-loop μ-loop
+unfolding setOf
+loop-again-2 c =
+    let at-index = c .before .before in
+    let at-if1 = at-index .before .before in
+    let at-stage = at-if1 .before in
+    let turn = at-stage .before .before .before .loop in (
+      omega arith,
       simp length-set (turn .inv .1),
-      gather-next _ _ _ _ _ (turn .sets) _ _ (turn .inv .1) (index .ensures .0 ∙ at-index .before .entry .ensures) (index .ensures .1) (turn .inv .2) (c .entered .ensures ∙ rw (at-stage .stage .ensures, c .before .entry2 .ensures)),
+      gather-next _ _ _ _ _ (turn .sets) _ _ (turn .inv .1) (at-index .index .ensures .0 ∙ at-index .before .entry .ensures) (at-index .index .ensures .1)
+          (sym (at-stage .is-last-stage .ensures) ∙ not-false _ (at-if1 .if1 .left)) (turn .inv .2) (c .with-member .ensures ∙ rw (c .before .entry2 .ensures)),
     )
 
 returns : tie.Need-returns Inv-loop μ-loop
 returns c =
-    let end : c .before .loop .m ≡ c .before .before .args .count = omega arith in
+    let end : c .before .loop .next ≡ c .before .before .args .count = omega arith in
     rw end at (c .before .loop .inv .2)
 
 pub gather-spec : {M : Type 1} → statement M
@@ -80,18 +94,20 @@ gather-spec =
     Inv-loop
     μ-loop
     loop-holds
-    entry-requires
-    index-requires
-    mul-entered
-    array-read-entered
-    mul-stage
-    element-copy-out-stage
-    stage-requires
-    entry-requires-2
-    entered-requires
-    mul-sets
-    array-write-sets
-    add-m
+    add-next
+    mul-is-last-stage
+    element-copy-out-is-last-stage
+    is-last-stage-requires
     loop-less
     loop-again
+    entry-requires
+    index-requires
+    mul-with-member
+    array-read-with-member
+    entry-requires-2
+    with-member-requires
+    mul-sets
+    array-write-sets
+    loop-less-2
+    loop-again-2
     returns)

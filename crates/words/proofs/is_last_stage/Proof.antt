@@ -1,0 +1,26 @@
+-- `words::is_last_stage` looks at both bits of the digit; past the last digit of the word there is none.
+use borrow.Author.Needs.{needs}
+use mathlib.Core.Path.{refl, sym, ap}
+use Prim.Native.Nat.{ℕ}
+use lib.Dec.{eqb}
+use Rattle.words.proofs.Digits.{digit-past, last-digit}
+use Rattle.words.proofs.is_last_stage.Statement.{statement}
+use Rattle.words.proofs.is_last_stage.Tie as tie
+
+returns : tie.Need-returns
+returns c = sym (ap (λ (d : ℕ). eqb d 3) (digit-past 4 (c .before .args .word) 32 (c .before .args .q) (search needs) (search needs)))
+
+mul-last : tie.Need-mul-last
+mul-last c = search needs
+
+cast-last : tie.Need-cast-last
+cast-last c = search needs
+
+shl-last : tie.Need-shl-last
+shl-last c = search needs
+
+returns-2 : tie.Need-returns-2
+returns-2 c = last-digit (c .before .args .word) (c .before .args .q) 32 _ (search needs) refl
+
+pub is-last-stage-spec : {M : Type 1} → statement M
+is-last-stage-spec = tie.close (tie.spec returns mul-last cast-last shl-last returns-2)
