@@ -1,10 +1,12 @@
 -- Laws of steps and rows: each is got back from the other; the kinds of rows, and the room that their numbers have.
-use Prim.Native.Nat.{ℕ, zero, suc, _^_, _<_}
+use Prim.Native.Nat.{ℕ, zero, suc, _^_, _≤_, _<_}
 use mathlib.Core.Path.{_≡_, refl}
 use mathlib.Core.Bool.{Bool, false}
+use mathlib.Core.Logic.{⊎-elim}
 use native.Mathlib.Omega.{arith}
 use borrow.Author.Tests.{leb-false}
 use lib.Dec.{leb}
+use lib.ListN.{List·getD-eq-default}
 use Rattle.register.specs.declared.sorts.Kind.{Kind}
 use Rattle.register.specs.declared.sorts.Kind.the-variants.{Proposal, Vote as AVote}
 use Rattle.register.specs.declared.step.Step.{Step}
@@ -15,6 +17,7 @@ use Rattle.packed_log.specs.declared.row.Row.{Row}
 use Rattle.packed_log.specs.Rows.{row, kindNumber, kindOf, rowOf, stepOf, Within}
 use Rattle.packed_log.specs.Widths.{width, fields}
 use Rattle.packed_log.specs.Writing.{wide}
+use Rattle.packed_log.proofs.WidthLaws.{Other, other}
 
 -- a kind of message is got back from its number
 kind-number : (k : Kind) → kindOf (kindNumber k) ≡ k
@@ -77,20 +80,9 @@ row-step (suc (suc (suc (suc (suc (suc (suc (suc zero)))))))) a b c d h low high
 row-step (suc (suc (suc (suc (suc (suc (suc (suc (suc k))))))))) a b c d h low high = absurd (omega arith)
 
 -- a row of any kind but 1 to 7 is read as an advance
-pub step-rest : (r : Row) → (r .kind ≡ 1 → ⊥) → (r .kind ≡ 2 → ⊥) → (r .kind ≡ 3 → ⊥) → (r .kind ≡ 4 → ⊥) → (r .kind ≡ 5 → ⊥) → (r .kind ≡ 6 → ⊥) → (r .kind ≡ 7 → ⊥) → stepOf r ≡ Advance
+pub step-other : (r : Row) → Other 7 (r .kind) → stepOf r ≡ Advance
 unfolding stepOf
-step-rest r h1 h2 h3 h4 h5 h6 h7 = go (r .kind) refl
-  where
-    go : (k : ℕ) → r .kind ≡ k → stepOf r ≡ Advance
-    go zero e = rw e
-    go (suc zero) e = absurd (h1 e)
-    go (suc (suc zero)) e = absurd (h2 e)
-    go (suc (suc (suc zero))) e = absurd (h3 e)
-    go (suc (suc (suc (suc zero)))) e = absurd (h4 e)
-    go (suc (suc (suc (suc (suc zero))))) e = absurd (h5 e)
-    go (suc (suc (suc (suc (suc (suc zero)))))) e = absurd (h6 e)
-    go (suc (suc (suc (suc (suc (suc (suc zero))))))) e = absurd (h7 e)
-    go (suc (suc (suc (suc (suc (suc (suc (suc k)))))))) e = rw e
+step-other r h = ⊎-elim (λ none. rw none) (λ (above : 8 ≤ r .kind). rw List·getD-eq-default) (other 7 (r .kind) h)
 
 -- the kinds of the steps are 1 to 8
 pub step-kind : (s : Step) → (0 < rowOf s .kind) × (rowOf s .kind < 9)

@@ -1,81 +1,56 @@
 // The widths of the fields, by kind.
 ghost use mathlib.Core.Path.{_≡_};
-ghost use Prim.Native.Nat.{_≤_, _<_};
+ghost use Prim.Native.Nat.{_+_, _*_, _≤_, _<_};
 ghost use Rattle.packed_log.specs.Widths.{width, due};
 
 // A kind takes so many bits.
 pub(crate) const KIND_WIDTH: usize = 4;
 
-// The widths of the six sorts of field; 0 stands where there is no field.
-const OFFICE: u8 = 5;
-
-const BLOCK: u8 = 8;
-
-const PAYLOAD: u8 = 16;
-
-const MESSAGE: u8 = 10;
-
-const MESSAGE_KIND: u8 = 1;
-
-const EPOCH: u8 = 9;
-
-const NONE: u8 = 0;
-
-// Four columns for each of the nine kinds.
-const WIDTHS: [u8; 36] = [
+// The widths of the four columns of each of the nine kinds, a byte for each column, the first column highest; 00 where there is no field.
+const WIDTHS: [u32; 9] = [
     // end
-    NONE,
-    NONE,
-    NONE,
-    NONE,
+    0x00_00_00_00,
     // propose: office, parent, payload
-    OFFICE,
-    BLOCK,
-    PAYLOAD,
-    NONE,
+    0x05_08_10_00,
     // vote: office, message
-    OFFICE,
-    MESSAGE,
-    NONE,
-    NONE,
+    0x05_0A_00_00,
     // register: office, message
-    OFFICE,
-    MESSAGE,
-    NONE,
-    NONE,
+    0x05_0A_00_00,
     // finalise: office, block
-    OFFICE,
-    BLOCK,
-    NONE,
-    NONE,
+    0x05_08_00_00,
     // deliver: message, office
-    MESSAGE,
-    OFFICE,
-    NONE,
-    NONE,
+    0x0A_05_00_00,
     // bad send: sender, kind, signer, block
-    OFFICE,
-    MESSAGE_KIND,
-    OFFICE,
-    BLOCK,
+    0x05_01_05_08,
     // draft: parent, epoch, payload
-    BLOCK,
-    EPOCH,
-    PAYLOAD,
-    NONE,
+    0x08_09_10_00,
     // advance
-    NONE,
-    NONE,
-    NONE,
-    NONE,
+    0x00_00_00_00,
 ];
+
+// The entry of a kind. It goes by cases, so that each entry is a constant for the compiler.
+fn entry_of(kind: u8) -> u32
+    ensures { λ r. ⌜ r ≡ ((width kind 0 * 256 + width kind 1) * 256 + width kind 2) * 256 + width kind 3 ⌝ }
+{
+    match kind {
+        1 => WIDTHS[1],
+        2 => WIDTHS[2],
+        3 => WIDTHS[3],
+        4 => WIDTHS[4],
+        5 => WIDTHS[5],
+        6 => WIDTHS[6],
+        7 => WIDTHS[7],
+        8 => WIDTHS[8],
+        _ => WIDTHS[0],
+    }
+}
 
 // The width of a kind's field in a column; 0 where there is no field.
 pub(crate) fn width_of(kind: u8, column: usize) -> usize
     requires { ⌜ (kind < 9) × (column < 4) ⌝ }
     ensures { λ r. ⌜ (r ≡ width kind column) × (r ≤ 16) ⌝ }
 {
-    WIDTHS[(kind as usize) * 4 + column] as usize
+    ((entry_of(kind) >> (8 * (3 - column))) % 256) as usize
 }
 
 // How many bits the fields of a kind take.

@@ -4,7 +4,8 @@ use mathlib.Core.Path.{sym}
 use native.Mathlib.Omega.{arith}
 use Rattle.packed_log.specs.Rows.{stepOf}
 use Rattle.packed_log.specs.Widths.{width, fields}
-use Rattle.packed_log.proofs.RowLaws.{step-rest}
+use Rattle.packed_log.proofs.WidthLaws.{Other}
+use Rattle.packed_log.proofs.RowLaws.{step-other}
 use Rattle.packed_log.proofs.row.step_of.Statement.{statement}
 use Rattle.packed_log.proofs.row.step_of.Tie as tie
 
@@ -87,11 +88,8 @@ unfolding stepOf
 returns-7 c = rw (c .before .match .keys7)
 
 returns-8 : tie.Need-returns-8
-returns-8 c =
-    let other = c .match .rest in
-    sym
-    (step-rest (c .before .args .r) (other .0 .0 .0 .0 .0 .0 .1) (other .0 .0 .0 .0 .0 .1) (other .0 .0 .0 .0 .1) (other .0 .0 .0 .1)
-    (other .0 .0 .1) (other .0 .1) (other .1))
+unfolding Other
+returns-8 c = sym (step-other (c .before .args .r) (c .match .rest))
 
 pub step-of-spec : {M : Type 1} → statement M
 step-of-spec =
