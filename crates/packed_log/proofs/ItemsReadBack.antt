@@ -140,7 +140,7 @@ module _ (log : List ℕ) (p : ℕ) where
       ) (simp append-assoc)
 
   -- the numbers of a row that is read have room in their columns
-  within-row : (k : ℕ) → Within (rowAt log k (p + 4))
+  pub within-row : (k : ℕ) → Within (rowAt log k (p + 4))
   unfolding rowAt
   within-row k =
       record {

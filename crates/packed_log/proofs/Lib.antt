@@ -11,6 +11,7 @@ pub mod OpeningWrites
 pub mod Unrefused
 pub mod Standing
 pub mod ItemsReadBack
+pub mod PassLaws
 pub mod StepsReadBack
 pub mod OpeningsReadBack
 pub mod LogsReadBack

@@ -9,8 +9,9 @@ use Rattle.packed_log.specs.declared.row.Row.{Row}
 use Rattle.packed_log.specs.declared.item.Item.{Item}
 use Rattle.packed_log.specs.declared.item.Item.the-variants as items
 use Rattle.packed_log.specs.declared.item.Read.{Read}
+use Rattle.packed_log.specs.declared.item.Passed.{Passed}
 use Rattle.packed_log.specs.Bits.{field}
-use Rattle.packed_log.specs.Rows.{row, stepOf}
+use Rattle.packed_log.specs.Rows.{row, rowOf, stepOf}
 use Rattle.packed_log.specs.Widths.{width, due}
 
 -- how many bits are left from position p on; 0 at the log's end and past it
@@ -53,3 +54,17 @@ unfoldable pub itemAt : (log : List ℕ) → (p : ℕ) → Read
 itemAt log p =
     choose (ltb 65536 (length log)) (read (items.Refused 30) p)
     (choose (ltb (left log p) 4) (read (items.Refused 27) p) (kindAt log (field log p 4) p))
+
+-- the kind of a step, 0 for the end and for a refusal; the refusal, 0 where there is none; and the position behind the item
+abbrev pub passed : (kind refusal next : ℕ) → Passed
+passed kind refusal next = record { kind = kind; refusal = refusal; next = next }
+
+-- an item and the position behind it, without a step's fields
+unfoldable pub passedBy : Item → (next : ℕ) → Passed
+passedBy (items.Step s) next = passed (rowOf s .kind) 0 next
+passedBy items.End next = passed 0 0 next
+passedBy (items.Refused number) next = passed 0 number next
+
+-- the same, of an item that is read
+unfoldable pub passedOf : Read → Passed
+passedOf r = passedBy (r .item) (r .next)

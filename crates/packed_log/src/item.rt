@@ -4,7 +4,7 @@ ghost use Prim.Native.Nat.{_+_, _*_, _≤_, _<_};
 ghost use lib.ListN.{length};
 ghost use Rattle.packed_log.specs.Rows.{Within};
 ghost use Rattle.packed_log.specs.Widths.{due};
-ghost use Rattle.packed_log.specs.Items.{left, rowAt, padded, read, endAt, stepAt, kindAt, itemAt};
+ghost use Rattle.packed_log.specs.Items.{left, rowAt, padded, passed, endAt, kindAt, itemAt, passedOf};
 use crate::bits::left_from;
 use crate::bits::read_bits;
 use crate::refusal;
@@ -33,12 +33,21 @@ pub struct Read {
     pub next: usize,
 }
 
+// What stands at a position but for a step's fields: the kind of the step, 0 for the end and for a refusal; the refusal, 0 where there is
+// none; and the position behind the item.
+pub struct Passed {
+    pub kind: u8,
+    pub refusal: u8,
+    pub next: usize,
+}
+
 // A refusal, which leaves the position.
-fn refused(number: u8, at: usize) -> Read
-    ensures { λ r. ⌜ r ≡ read (Item.Refused number) at ⌝ }
+fn refused(number: u8, at: usize) -> Passed
+    ensures { λ r. ⌜ r ≡ passed 0 number at ⌝ }
 {
-    Read {
-        item: Item::Refused(number),
+    Passed {
+        kind: 0,
+        refusal: number,
         next: at,
     }
 }
@@ -85,54 +94,46 @@ fn is_padded(log: &[u8], at: usize) -> bool
 }
 
 // The end, whose kind stands at position `at`.
-fn read_end(log: &[u8], at: usize) -> Read
+fn pass_end(log: &[u8], at: usize) -> Passed
     requires { ⌜ (at + 4 ≤ 8 * length (now log)) × (length (now log) ≤ 65536) ⌝ }
-    ensures { λ r. ⌜ r ≡ endAt (now (log .entry)) at ⌝ }
+    ensures { λ r. ⌜ r ≡ passedOf (endAt (now (log .entry)) at) ⌝ }
 {
     if is_padded(log, at + KIND_WIDTH) {
-        return Read {
-            item: Item::End,
+        return Passed {
+            kind: 0,
+            refusal: 0,
             next: 8 * log.len(),
         };
     }
     refused(refusal::ENDING, at)
 }
 
-// The step of that kind, which stands at position `at`.
-fn read_step(log: &[u8], kind: u8, at: usize) -> Read
-    requires { ⌜ (kind < 9) × (at + 4 ≤ 8 * length (now log)) × (length (now log) ≤ 65536) ⌝ }
-    ensures { λ r. ⌜ r ≡ stepAt (now (log .entry)) kind at ⌝ }
-{
-    let size = due_of(kind);
-    let from = at + KIND_WIDTH;
-    if left_of(log, from) < size {
-        return refused(refusal::CUT, at);
-    }
-    let row = read_row(log, kind, from);
-    let step = step_of(row);
-    Read {
-        item: Item::Step(step),
-        next: from + size,
-    }
-}
-
-// What the kind at position `at` brings.
-fn read_kind(log: &[u8], kind: u8, at: usize) -> Read
+// What the kind at position `at` brings, but for the fields.
+fn pass_kind(log: &[u8], kind: u8, at: usize) -> Passed
     requires { ⌜ (at + 4 ≤ 8 * length (now log)) × (length (now log) ≤ 65536) ⌝ }
-    ensures { λ r. ⌜ r ≡ kindAt (now (log .entry)) kind at ⌝ }
+    ensures { λ r. ⌜ r ≡ passedOf (kindAt (now (log .entry)) kind at) ⌝ }
 {
     if LAST_KIND < kind {
         return refused(refusal::NO_SUCH_STEP, at);
     }
     if kind == 0 {
-        return read_end(log, at);
+        return pass_end(log, at);
     }
-    read_step(log, kind, at)
+    let size = due_of(kind);
+    let from = at + KIND_WIDTH;
+    if left_of(log, from) < size {
+        return refused(refusal::CUT, at);
+    }
+    Passed {
+        kind,
+        refusal: 0,
+        next: from + size,
+    }
 }
 
-// The item at position `at`.
-pub fn read_item(log: &[u8], at: usize) -> Read
-    ensures { λ r. ⌜ r ≡ itemAt (now (log .entry)) at ⌝ }
+// The item at position `at`, but for a step's fields.
+pub fn pass_item(log: &[u8], at: usize) -> Passed
+    ensures { λ r. ⌜ r ≡ passedOf (itemAt (now (log .entry)) at) ⌝ }
 {
     if LONGEST < log.len() {
         return refused(refusal::LONG_LOG, at);
@@ -141,5 +142,30 @@ pub fn read_item(log: &[u8], at: usize) -> Read
         return refused(refusal::CUT, at);
     }
     let kind = read_bits(log, at, KIND_WIDTH);
-    read_kind(log, kind as u8, at)
+    pass_kind(log, kind as u8, at)
+}
+
+// The item at position `at`.
+pub fn read_item(log: &[u8], at: usize) -> Read
+    ensures { λ r. ⌜ r ≡ itemAt (now (log .entry)) at ⌝ }
+{
+    let passed = pass_item(log, at);
+    if passed.refusal != 0 {
+        return Read {
+            item: Item::Refused(passed.refusal),
+            next: passed.next,
+        };
+    }
+    if passed.kind == 0 {
+        return Read {
+            item: Item::End,
+            next: passed.next,
+        };
+    }
+    let row = read_row(log, passed.kind, at + KIND_WIDTH);
+    let step = step_of(row);
+    Read {
+        item: Item::Step(step),
+        next: passed.next,
+    }
 }

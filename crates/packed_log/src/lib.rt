@@ -10,6 +10,7 @@ pub mod write_opening;
 pub mod writing;
 
 pub use item::Item;
+pub use item::Passed;
 pub use item::Read;
 pub use opening::Opening;
 pub use reader::Reader;

@@ -1,4 +1,4 @@
--- Bodies: what reading an item does to the position, one item unfolded, and bodies against logs that read as steps and the end.
+-- Bodies: what reading an item does to the position, one item unfolded or passed over, and bodies against logs that read as steps and the end.
 use Prim.Native.Nat.{ℕ, zero, suc, _+_, _*_, _≤_, _<_, min}
 use mathlib.Core.Path.{_≡_, refl, ap, _∙_}
 use mathlib.Core.List.{List, [], _∷_}
@@ -10,11 +10,13 @@ use lib.ListN.{length}
 use Rattle.register.specs.declared.step.Step.{Step}
 use Rattle.packed_log.specs.declared.item.Item.{Item}
 use Rattle.packed_log.specs.declared.item.Item.the-variants as items
+use Rattle.packed_log.specs.declared.item.Passed.{Passed}
 use Rattle.packed_log.specs.declared.item.Read.{Read}
 use Rattle.packed_log.specs.Bits.{field}
 use Rattle.packed_log.specs.Widths.{due}
-use Rattle.packed_log.specs.Items.{left, padded, endAt, stepAt, kindAt, itemAt}
+use Rattle.packed_log.specs.Items.{left, padded, endAt, stepAt, kindAt, itemAt, passedBy, passedOf}
 use Rattle.packed_log.specs.Logs.{ReadsFrom}
+use Rattle.packed_log.proofs.RowLaws.{step-kind}
 use Rattle.packed_log.proofs.ItemsReadBack.{chosen}
 use Rattle.report.specs.Bodies.{Body, begun, bodyFrom, bodyAt}
 
@@ -74,17 +76,30 @@ body-begins log p =
     (same-rest log p next (itemAt log p .item) _ _ (item-sound log p)
     (λ less. fuel-same (left log p) (left log next + 1) log next less (omega arith)))
 
-module _ (log : List ℕ) (p : ℕ) (read : Read) (here : read ≡ itemAt log p) where
-  -- the same, of an item that has been read
-  pub body-read : (item : Item) → read .item ≡ item → bodyAt log p ≡ begun item (bodyAt log (read .next))
-  body-read item is = body-begins log p ∙ rw (← here, is)
+-- the same, of an item that has been read
+pub body-read : (log : List ℕ) (p : ℕ) (read : Read) → read ≡ itemAt log p → (item : Item) → read .item ≡ item → bodyAt log p ≡ begun item (bodyAt log (read .next))
+body-read log p read here item is = body-begins log p ∙ rw (← here, is)
 
-  -- a step that has been read leaves fewer bits
-  pub fewer-left : (s : Step) → read .item ≡ items.Step s → left log (read .next) < left log p
-  unfolding left Sound
-  fewer-left s is =
-      let sound : (p + 4 ≤ read .next) × (read .next ≤ 8 * length log) × (length log ≤ 65536) = rw (← here, is) at (item-sound log p) in
-      omega arith
+-- what passing over an item tells of the body from position p on, which begins with it: without a kind, the refusal of the body; with one,
+-- that the body behind the item has it, where fewer bits are left
+pub record Tells (log : List ℕ) (p : ℕ) (body : Body) (passed : Passed) : Type 0 where
+  pub closed : passed .kind ≡ 0 → body .refusal ≡ passed .refusal
+  pub behind : (passed .kind ≡ 0 → ⊥) → body .refusal ≡ bodyAt log (passed .next) .refusal
+  pub fewer : (passed .kind ≡ 0 → ⊥) → left log (passed .next) < left log p
+
+-- each item tells that
+item-tells : (log : List ℕ) (p next : ℕ) (item : Item) → Sound log p next item → Tells log p (begun item (bodyAt log next)) (passedBy item next)
+unfolding Sound left begun passedBy
+item-tells log p next (items.Step s) sound =
+    record { closed = λ none. absurd (omega (arith, step-kind s)); behind = λ some. refl; fewer = λ some. omega arith }
+item-tells log p next items.End sound = record { closed = λ none. refl; behind = λ some. absurd (some refl); fewer = λ some. absurd (some refl) }
+item-tells log p next (items.Refused number) sound =
+    record { closed = λ none. refl; behind = λ some. absurd (some refl); fewer = λ some. absurd (some refl) }
+
+-- so does what has been passed over
+pub passed-tells : (log : List ℕ) (p : ℕ) (passed : Passed) → passed ≡ passedOf (itemAt log p) → Tells log p (bodyAt log p) passed
+unfolding passedOf
+passed-tells log p passed here = rw (here, body-begins log p) (item-tells log p _ _ (item-sound log p))
 
 -- a log that reads as steps and the end has those steps as its body
 pub reads-body : (log : List ℕ) (p : ℕ) (ss : List Step) → ReadsFrom log p ss → bodyAt log p ≡ record { steps = ss; refusal = 0 }

@@ -4,6 +4,7 @@ ghost use lib.ListN.{length};
 ghost use Rattle.report.specs.Bodies.{bodyAt};
 ghost use Rattle.report.specs.Parts.{stepsOf, PartAt};
 use packed_log::Item;
+use packed_log::item::pass_item;
 use packed_log::item::read_item;
 use register::Step;
 use register::run::BATCH;
@@ -15,13 +16,11 @@ pub(crate) fn fault_from(log: &[u8], at: usize) -> u8
 {
     let mut next = at;
     loop {
-        let read = read_item(log, next);
-        let item = read.item;
-        match item {
-            Item::Step(_) => next = read.next,
-            Item::End => return 0,
-            Item::Refused(number) => return number,
+        let passed = pass_item(log, next);
+        if passed.kind == 0 {
+            return passed.refusal;
         }
+        next = passed.next;
     }
 }
 

@@ -1,58 +1,49 @@
--- `packed_log::item::read_item`: gives 30, then 27, then what the kind brings.
+-- `packed_log::item::read_item`: the item is got back from what was passed over, a step with its fields.
 use borrow.Author.Needs.{needs}
+use mathlib.Core.Path.{sym}
 use native.Mathlib.Omega.{arith}
-use borrow.Author.Tests.{lt-ltb, le-ltb}
+use borrow.Author.Tests.{eq-eqb, ne-eqb}
 use Rattle.words.specs.Tests.{choose}
-use Rattle.packed_log.specs.Items.{left, itemAt}
+use Rattle.packed_log.proofs.PassLaws.{restored, item-restored, step-room}
 use Rattle.packed_log.proofs.item.read_item.Statement.{statement}
 use Rattle.packed_log.proofs.item.read_item.Tie as tie
 
-refused-requires : tie.Need-refused-requires
-refused-requires c κs = search needs
+pass-item-requires : tie.Need-pass-item-requires
+pass-item-requires c κs = search needs
 
 returns : tie.Need-returns
-unfolding itemAt choose
-returns c = rw (lt-ltb _ _ (c .before .if1 .taken)) (c .refused .ensures)
-
-left-of-requires : tie.Need-left-of-requires
-left-of-requires c κs = search needs
-
-refused-requires-2 : tie.Need-refused-requires-2
-refused-requires-2 c κs = search needs
+unfolding restored choose
+returns c = rw (ne-eqb _ _ (c .if1 .taken)) at (sym (item-restored _ _ _ (c .before .before .pass-item .ensures)))
 
 returns-2 : tie.Need-returns-2
-unfolding itemAt choose
-returns-2 c = rw (le-ltb _ _ (c .before .before .before .if1 .left), ← c .before .before .left-of .ensures, lt-ltb _ _ (c .before .if2 .taken)) (c .refused2 .ensures)
+unfolding restored choose
+returns-2 c = rw (eq-eqb _ _ (c .before .before .if1 .left), eq-eqb _ _ (c .if2 .taken)) at (sym (item-restored _ _ _ (c .before .before .before .before .pass-item .ensures)))
 
-read-bits-requires : tie.Need-read-bits-requires
-unfolding left
-read-bits-requires c κs = (omega arith, omega arith, omega arith)
+add-read-row : tie.Need-add-read-row
+add-read-row c = omega (arith, step-room _ _ _ (c .before .before .before .before .pass-item .ensures) (c .if2 .left))
 
-cast-read-kind : tie.Need-cast-read-kind
-cast-read-kind c = search needs
+read-row-requires : tie.Need-read-row-requires
+read-row-requires c κs = step-room _ _ _ (c .before .before .before .before .pass-item .ensures) (c .if2 .left)
 
-read-kind-requires : tie.Need-read-kind-requires
-unfolding left
-read-kind-requires c κs = (omega arith, omega arith)
+step-of-requires : tie.Need-step-of-requires
+step-of-requires c κs = search needs
 
 returns-3 : tie.Need-returns-3
-unfolding itemAt choose
+unfolding restored choose
 returns-3 c =
     let at-if2 = c .before .before in
-    let at-left-of = at-if2 .before in
-    let at-if1 = at-left-of .before in
-    rw (le-ltb _ _ (at-if1 .if1 .left), ← at-left-of .left-of .ensures, le-ltb _ _ (at-if2 .if2 .left), ← c .before .read-bits .ensures .0) (c .read-kind .ensures)
+    let at-if1 = at-if2 .before .before in
+    rw (c .step-of .ensures, c .before .read-row .ensures .0)
+    (rw (eq-eqb _ _ (at-if1 .if1 .left), ne-eqb _ _ (at-if2 .if2 .left)) at (sym (item-restored _ _ _ (at-if1 .before .before .pass-item .ensures))))
 
 pub read-item-spec : {M : Type 1} → statement M
 read-item-spec =
     tie.close
     (tie.spec
-    refused-requires
+    pass-item-requires
     returns
-    left-of-requires
-    refused-requires-2
     returns-2
-    read-bits-requires
-    cast-read-kind
-    read-kind-requires
+    add-read-row
+    read-row-requires
+    step-of-requires
     returns-3)
