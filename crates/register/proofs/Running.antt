@@ -33,7 +33,7 @@ ran-next r s steps i refusals values c so-far answer =
     (ap (λ (z : Stepped). andThen (record { register = s; refusals = refusals; values = values }) i z) answer))
 
 -- a batch of one step
-pub ran-one : (r : Register) (step : Step) (ran : Ran) → ran ≡ ranFirst r (replicate 64 step) 1
+pub ran-one : (r : Register) (step : Step) (ran : Ran) → ran ≡ ranFirst r (replicate 256 step) 1
     → record { register = ran .register; refusal = getD (ran .refusals) 0 0; value = getD (ran .values) 0 0 } ≡ quickRule r step
 unfolding ranFirst andThen stepAt
 ran-one r step ran e =

@@ -21,5 +21,5 @@ andThen ran i s =
 
 -- the first i of a list of steps: the register after them, and the answer of each at its place
 unfoldable pub ranFirst : Register → List Step → (i : ℕ) → Ran
-ranFirst r steps zero = record { register = r; refusals = replicate 64 0; values = replicate 64 0 }
+ranFirst r steps zero = record { register = r; refusals = replicate 256 0; values = replicate 256 0 }
 ranFirst r steps (suc i) = andThen (ranFirst r steps i) i (quickRule (ranFirst r steps i .register) (stepAt steps i))

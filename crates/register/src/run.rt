@@ -17,14 +17,14 @@ use crate::table::Register;
 use crate::table::Stepped;
 
 // Steps that are run in one call.
-pub type Batch = [Step; 64];
+pub type Batch = [Step; 256];
 
 // How many steps a batch holds.
-pub const BATCH: usize = 64;
+pub const BATCH: usize = 256;
 
 // The number of steps, or that of a batch where it is more.
 fn in_batch(count: usize) -> usize
-    ensures { λ r. ⌜ r ≡ min count 64 ⌝ }
+    ensures { λ r. ⌜ r ≡ min count 256 ⌝ }
 {
     if count < BATCH { count } else { BATCH }
 }
@@ -33,11 +33,11 @@ impl Register {
     // Runs the first steps of a batch without the test of the register's tables. The register is changed in place, so that a step
     // costs no copy of it.
     pub fn run(mut self, steps: Batch, count: usize) -> Ran
-        ensures { λ r. ⌜ r ≡ ranFirst self steps (min count 64) ⌝ }
+        ensures { λ r. ⌜ r ≡ ranFirst self steps (min count 256) ⌝ }
     {
         let limit = in_batch(count);
-        let mut refusals = [0u8; 64];
-        let mut values = [0u16; 64];
+        let mut refusals = [0u8; 256];
+        let mut values = [0u16; 256];
         let mut i = 0;
         while i < limit {
             let head = Head {
@@ -96,7 +96,7 @@ impl Register {
     pub fn quick_step(self, step: Step) -> Stepped
         ensures { λ r. ⌜ r ≡ quickRule self step ⌝ }
     {
-        let ran = self.run([step; 64], 1);
+        let ran = self.run([step; 256], 1);
         let register = ran.register;
         Stepped {
             register,

@@ -66,6 +66,6 @@ pub struct Stepped {
 // What a batch of steps gives: the register after them, and the refusal and the value of each at its place.
 pub struct Ran {
     pub register: Register,
-    pub refusals: [u8; 64],
-    pub values: [u16; 64],
+    pub refusals: [u8; 256],
+    pub values: [u16; 256],
 }

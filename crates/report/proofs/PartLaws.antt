@@ -20,8 +20,8 @@ ahead ss body = record { steps = ss ++ body .steps; refusal = body .refusal }
 
 -- what is gathered from position p on: the steps in the first slots, and from the position behind them on the rest of the body
 pub record Gathered (log : List ℕ) (p : ℕ) (part : Part) : Type 0 where
-  pub slots : length (part .slots) ≡ 64
-  pub count : part .count ≤ 64
+  pub slots : length (part .slots) ≡ 256
+  pub count : part .count ≤ 256
   pub body : bodyAt log p ≡ ahead (take (part .count) (stepsOf (part .slots))) (bodyAt log (part .next))
 
 -- a step that is put into slot i comes behind the i steps in front of it
@@ -49,20 +49,20 @@ unfolding stepsOf
 copied-all slots steps n full sized all =
     sym (take-all n steps (omega arith)) ∙ all ∙ take-all n (stepsOf slots) (rw length-map (omega arith))
 
--- steps and the rest behind them are parted at 64 where there are 64 steps, or fewer with no step behind them
-parted : (ss rest : List Step) → length ss ≤ 64 → (length ss ≡ 64) ⊎ (rest ≡ [])
-    → (take 64 (ss ++ rest) ≡ ss) × (drop 64 (ss ++ rest) ≡ rest)
-parted ss rest small (inl all) = (take-at ss rest 64 all, drop-at ss rest 64 all)
-parted ss rest small (inr none) = rw (none, append-nil) (take-all 64 ss small, drop-of-length-le ss {i = 64} small)
+-- steps and the rest behind them are parted at 256 where there are 256 steps, or fewer with no step behind them
+parted : (ss rest : List Step) → length ss ≤ 256 → (length ss ≡ 256) ⊎ (rest ≡ [])
+    → (take 256 (ss ++ rest) ≡ ss) × (drop 256 (ss ++ rest) ≡ rest)
+parted ss rest small (inl all) = (take-at ss rest 256 all, drop-at ss rest 256 all)
+parted ss rest small (inr none) = rw (none, append-nil) (take-all 256 ss small, drop-of-length-le ss {i = 256} small)
 
 module _ (log : List ℕ) (p : ℕ) where
   -- nothing gathered yet
-  pub gathered-none : (empty : Slot) → Gathered log p (record { slots = replicate 64 empty; count = 0; next = p })
+  pub gathered-none : (empty : Slot) → Gathered log p (record { slots = replicate 256 empty; count = 0; next = p })
   unfolding ahead
   gathered-none empty = record { slots = refl; count = omega arith; body = refl }
 
   -- one step more
-  pub gathered-step : (part : Part) (step : Step) (next : ℕ) → Gathered log p part → part .count < 64
+  pub gathered-step : (part : Part) (step : Step) (next : ℕ) → Gathered log p part → part .count < 256
       → bodyAt log (part .next) ≡ begun (items.Step step) (bodyAt log next)
       → Gathered log p (record { slots = set (part .slots) (part .count) (record { step = step }); count = part .count + 1; next = next })
   unfolding ahead begun
@@ -77,25 +77,25 @@ module _ (log : List ℕ) (p : ℕ) where
         body = so-far .body ∙ rw (one, add-one, put, append-assoc);
       }
 
-  -- a part is whole with 64 steps, or where no step follows
-  pub gathered-part : (part : Part) → Gathered log p part → (part .count ≡ 64) ⊎ (bodyAt log (part .next) .steps ≡ []) → PartAt log p part
+  -- a part is whole with 256 steps, or where no step follows
+  pub gathered-part : (part : Part) → Gathered log p part → (part .count ≡ 256) ⊎ (bodyAt log (part .next) .steps ≡ []) → PartAt log p part
   unfolding ahead without stepsOf
   gathered-part part so-far whole =
       let ss : List Step = take (part .count) (stepsOf (part .slots)) in
       let rest : Body = bodyAt log (part .next) in
       let sized : length ss ≡ part .count =
       length-take-le (part .count) (stepsOf (part .slots)) (rw (length-map, so-far .slots) (so-far .count)) in
-      let halves : (take 64 (ss ++ rest .steps) ≡ ss) × (drop 64 (ss ++ rest .steps) ≡ rest .steps) =
+      let halves : (take 256 (ss ++ rest .steps) ≡ ss) × (drop 256 (ss ++ rest .steps) ≡ rest .steps) =
       parted ss (rest .steps) (omega arith) (rw sized whole) in
-      let front : ss ≡ take 64 (bodyAt log p .steps) = rw (so-far .body) (sym (halves .0)) in
+      let front : ss ≡ take 256 (bodyAt log p .steps) = rw (so-far .body) (sym (halves .0)) in
       record {
-        count = sym sized ∙ ap length front ∙ length-take 64 (bodyAt log p .steps);
+        count = sym sized ∙ ap length front ∙ length-take 256 (bodyAt log p .steps);
         steps = front;
         rest = rw (so-far .body, halves .1);
       }
 
--- what is left behind a part is the body without its first 64 steps
-pub part-rest : (log : List ℕ) (p : ℕ) (part : Part) → PartAt log p part → bodyAt log (part .next) .steps ≡ drop 64 (bodyAt log p .steps)
+-- what is left behind a part is the body without its first 256 steps
+pub part-rest : (log : List ℕ) (p : ℕ) (part : Part) → PartAt log p part → bodyAt log (part .next) .steps ≡ drop 256 (bodyAt log p .steps)
 unfolding without
 part-rest log p part h = ap (λ (b : Body). b .steps) (h .rest)
 

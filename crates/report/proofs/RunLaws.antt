@@ -60,12 +60,12 @@ batch-set place rs vs i x y zero h = refl
 batch-set place rs vs i x y (suc count) h =
     rw (batch-set place rs vs i x y count (omega arith), getD-set-other rs i count x 0 (omega arith), getD-set-other vs i count y 0 (omega arith))
 
--- the tables of answers have 64 entries
-ran-sizes : (r : Register) (steps : List Step) (i : ℕ) → (length (ranFirst r steps i .refusals) ≡ 64) × (length (ranFirst r steps i .values) ≡ 64)
+-- the tables of answers have 256 entries
+ran-sizes : (r : Register) (steps : List Step) (i : ℕ) → (length (ranFirst r steps i .refusals) ≡ 256) × (length (ranFirst r steps i .values) ≡ 256)
 unfolding ranFirst andThen
 ran-sizes r steps zero = (refl, refl)
 ran-sizes r steps (suc i) =
-    let before : (length (ranFirst r steps i .refusals) ≡ 64) × (length (ranFirst r steps i .values) ≡ 64) = ran-sizes r steps i in
+    let before : (length (ranFirst r steps i .refusals) ≡ 256) × (length (ranFirst r steps i .values) ≡ 256) = ran-sizes r steps i in
     (rw length-set (before .0), rw length-set (before .1))
 
 -- the first i + 1 steps of a list
@@ -95,13 +95,13 @@ ran-register r steps (suc i) h =
     ∙ sym (ap (lastOf quickRule r) whole ∙ last-append quickRule r (take i steps) (s ∷ []) ∙ last-one (lastOf quickRule r (take i steps)) s)
 
 -- the lines of one answer more
-next-lines : (r : Register) (steps : List Step) (place i : ℕ) → i < 64
+next-lines : (r : Register) (steps : List Step) (place i : ℕ) → i < 256
     → batchLines place (ranFirst r steps (suc i) .refusals) (ranFirst r steps (suc i) .values) (suc i)
     ≡ batchLines place (ranFirst r steps i .refusals) (ranFirst r steps i .values) i
     ++ stepLine (place + i) (quickRule (ranFirst r steps i .register) (stepAt steps i) .refusal) (quickRule (ranFirst r steps i .register) (stepAt steps i) .value)
 unfolding ranFirst andThen batchLines
 next-lines r steps place i few =
-    let sizes : (length (ranFirst r steps i .refusals) ≡ 64) × (length (ranFirst r steps i .values) ≡ 64) = ran-sizes r steps i in
+    let sizes : (length (ranFirst r steps i .refusals) ≡ 256) × (length (ranFirst r steps i .values) ≡ 256) = ran-sizes r steps i in
     rw (
       batch-set place (ranFirst r steps i .refusals) (ranFirst r steps i .values) i _ _ i (omega arith),
       getD-set-same (ranFirst r steps i .refusals) i _ 0 (omega arith),
@@ -114,7 +114,7 @@ unfolding answers stepLines
 line-one place r s = append-nil (stepLine place (quickRule r s .refusal) (quickRule r s .value))
 
 -- the lines of a batch that was run are those of its steps
-pub ran-lines : (r : Register) (steps : List Step) (place i : ℕ) → i ≤ length steps → i ≤ 64
+pub ran-lines : (r : Register) (steps : List Step) (place i : ℕ) → i ≤ length steps → i ≤ 256
     → batchLines place (ranFirst r steps i .refusals) (ranFirst r steps i .values) i ≡ stepLines place (answers quickRule r (take i steps))
 ran-lines r steps place zero h few = unfold batchLines answers stepLines in refl
 ran-lines r steps place (suc i) h few =

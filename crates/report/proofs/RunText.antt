@@ -48,20 +48,20 @@ run-begins before r rest few =
     record { done = []; text = refl; written = record { counted = refl; laid = refl }; short = omega arith; few = omega arith }
 
 module _ (r : Register) (place : ℕ) (rest batch : List Step) (count : ℕ) (ran : Ran)
-    (counts : count ≡ min 64 (length rest)) (holds : take count batch ≡ take 64 rest) (room : length batch ≡ 64)
-    (runs : ran ≡ ranFirst r batch (min count 64))
+    (counts : count ≡ min 256 (length rest)) (holds : take count batch ≡ take 256 rest) (room : length batch ≡ 256)
+    (runs : ran ≡ ranFirst r batch (min count 256))
   where
     -- the batch is run up to its count
     all-run : ran ≡ ranFirst r batch count
-    all-run = let same : min count 64 ≡ count = omega arith in runs ∙ ap (ranFirst r batch) same
+    all-run = let same : min count 256 ≡ count = omega arith in runs ∙ ap (ranFirst r batch) same
 
     -- the register behind the part
-    part-register : ran .register ≡ lastOf quickRule r (take 64 rest)
+    part-register : ran .register ≡ lastOf quickRule r (take 256 rest)
     part-register =
         ap (λ (x : Ran). x .register) all-run ∙ ran-register r batch count (omega arith) ∙ ap (lastOf quickRule r) holds
 
     -- the lines of the part
-    part-lines : batchLines place (ran .refusals) (ran .values) count ≡ stepLines place (answers quickRule r (take 64 rest))
+    part-lines : batchLines place (ran .refusals) (ran .values) count ≡ stepLines place (answers quickRule r (take 256 rest))
     part-lines =
         ap (λ (x : Ran). batchLines place (x .refusals) (x .values) count) all-run
         ∙ ran-lines r batch place count (omega arith) (omega arith)
@@ -69,25 +69,25 @@ module _ (r : Register) (place : ℕ) (rest batch : List Step) (count : ℕ) (ra
 
     -- the text from here on is those lines, and then that from behind the part on
     part-text : runLines quickRule r place rest
-        ≡ batchLines place (ran .refusals) (ran .values) count ++ runLines quickRule (ran .register) (place + count) (drop 64 rest)
+        ≡ batchLines place (ran .refusals) (ran .values) count ++ runLines quickRule (ran .register) (place + count) (drop 256 rest)
     part-text =
-        let long : length (take 64 rest) ≡ count = simp length-take (omega arith) in
-        let joined : runLines quickRule r place (take 64 rest ++ drop 64 rest)
-        ≡ stepLines place (answers quickRule r (take 64 rest)) ++ runLines quickRule (lastOf quickRule r (take 64 rest)) (place + length (take 64 rest)) (drop 64 rest) =
-        run-append quickRule r place (take 64 rest) (drop 64 rest) in
-        ap (runLines quickRule r place) (sym (take-append-drop 64 rest))
+        let long : length (take 256 rest) ≡ count = simp length-take (omega arith) in
+        let joined : runLines quickRule r place (take 256 rest ++ drop 256 rest)
+        ≡ stepLines place (answers quickRule r (take 256 rest)) ++ runLines quickRule (lastOf quickRule r (take 256 rest)) (place + length (take 256 rest)) (drop 256 rest) =
+        run-append quickRule r place (take 256 rest) (drop 256 rest) in
+        ap (runLines quickRule r place) (sym (take-append-drop 256 rest))
         ∙ joined
-        ∙ ap (λ (k : ℕ). stepLines place (answers quickRule r (take 64 rest)) ++ runLines quickRule (lastOf quickRule r (take 64 rest)) (place + k) (drop 64 rest)) long
-        ∙ ap (λ (x : Register). stepLines place (answers quickRule r (take 64 rest)) ++ runLines quickRule x (place + count) (drop 64 rest)) (sym part-register)
-        ∙ ap (λ (t : List ℕ). t ++ runLines quickRule (ran .register) (place + count) (drop 64 rest)) (sym part-lines)
+        ∙ ap (λ (k : ℕ). stepLines place (answers quickRule r (take 256 rest)) ++ runLines quickRule (lastOf quickRule r (take 256 rest)) (place + k) (drop 256 rest)) long
+        ∙ ap (λ (x : Register). stepLines place (answers quickRule r (take 256 rest)) ++ runLines quickRule x (place + count) (drop 256 rest)) (sym part-register)
+        ∙ ap (λ (t : List ℕ). t ++ runLines quickRule (ran .register) (place + count) (drop 256 rest)) (sym part-lines)
 
     -- a run comes one part further
     pub run-goes-on : {before report after whole : List ℕ} {next later : ℕ} → SoFar before report whole next place r rest
         → Written report next (batchLines place (ran .refusals) (ran .values) count) later after → later ≤ next + 17 * count
-        → SoFar before after whole later (place + count) (ran .register) (drop 64 rest)
+        → SoFar before after whole later (place + count) (ran .register) (drop 256 rest)
     run-goes-on {before} {report} {after} {whole} {next} {later} so-far lines short =
         let ls : List ℕ = batchLines place (ran .refusals) (ran .values) count in
-        let tail : List ℕ = runLines quickRule (ran .register) (place + count) (drop 64 rest) in
+        let tail : List ℕ = runLines quickRule (ran .register) (place + count) (drop 256 rest) in
         record {
           done = so-far .done ++ ls;
           text = so-far .text ∙ ap (λ (t : List ℕ). so-far .done ++ t) part-text ∙ sym (append-assoc (so-far .done) ls tail);

@@ -16,8 +16,8 @@ stepsOf slots = map (λ (s : Slot). s .step) slots
 unfoldable pub without : (k : ℕ) → Body → Body
 without k body = record { steps = drop k (body .steps); refusal = body .refusal }
 
--- the part at position p: the body's first 64 steps, or all where they are fewer; from the position behind them on there is the rest
+-- the part at position p: the body's first 256 steps, or all where they are fewer; from the position behind them on there is the rest
 pub record PartAt (log : List ℕ) (p : ℕ) (part : Part) : Type 0 where
-  pub count : part .count ≡ min 64 (length (bodyAt log p .steps))
-  pub steps : take (part .count) (stepsOf (part .slots)) ≡ take 64 (bodyAt log p .steps)
-  pub rest : bodyAt log (part .next) ≡ without 64 (bodyAt log p)
+  pub count : part .count ≡ min 256 (length (bodyAt log p .steps))
+  pub steps : take (part .count) (stepsOf (part .slots)) ≡ take 256 (bodyAt log p .steps)
+  pub rest : bodyAt log (part .next) ≡ without 256 (bodyAt log p)

@@ -31,7 +31,7 @@ pub(crate) struct Slot {
 
 // A part of a log's steps, in the first `count` slots, and the position behind them.
 pub(crate) struct Part {
-    pub slots: [Slot; 64],
+    pub slots: [Slot; 256],
     pub count: usize,
     pub next: usize,
 }
@@ -43,7 +43,7 @@ pub(crate) fn read_part(log: &[u8], at: usize) -> Part
     let empty = Slot {
         step: Step::Advance,
     };
-    let mut slots = [empty; 64];
+    let mut slots = [empty; 256];
     let mut count = 0;
     let mut next = at;
     while count < BATCH {
@@ -60,10 +60,10 @@ pub(crate) fn read_part(log: &[u8], at: usize) -> Part
 }
 
 // The steps in some slots, as a batch to run.
-pub(crate) fn steps_of(slots: [Slot; 64]) -> Batch
-    ensures { λ r. ⌜ (r ≡ stepsOf slots) × (length r ≡ 64) ⌝ }
+pub(crate) fn steps_of(slots: [Slot; 256]) -> Batch
+    ensures { λ r. ⌜ (r ≡ stepsOf slots) × (length r ≡ 256) ⌝ }
 {
-    let mut steps = [Step::Advance; 64];
+    let mut steps = [Step::Advance; 256];
     let mut i = 0;
     while i < BATCH {
         let slot = slots[i];

@@ -13,11 +13,11 @@ pub(crate) fn write_batch<'a>(
     report: &mut [u8],
     at: usize,
     place: usize,
-    refusals: &'a [u8; 64],
-    values: &'a [u16; 64],
+    refusals: &'a [u8; 256],
+    values: &'a [u16; 256],
     count: usize,
 ) -> usize
-    requires { ⌜ (count ≤ 64) × (place + count ≤ 131073) × (at ≤ 2 ^ 31) ⌝ }
+    requires { ⌜ (count ≤ 256) × (place + count ≤ 131073) × (at ≤ 2 ^ 31) ⌝ }
     ensures { λ r. ⌜ (Written (now (report .entry)) at (batchLines place (now (refusals .entry)) (now (values .entry)) count) r (now (report .exit))) × (r ≤ at + 17 * count) ⌝ }
 {
     let mut next = at;

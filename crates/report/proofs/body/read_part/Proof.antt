@@ -19,7 +19,7 @@ abbrev Inv-loop : tie.InvT-loop
 Inv-loop log at slots₀ count₀ next₀ slots count next = Gathered log at (record { slots = slots; count = count; next = next })
 
 abbrev μ-loop : tie.MeasureT-loop
-μ-loop log at slots₀ count₀ next₀ slots count next = 64 - count
+μ-loop log at slots₀ count₀ next₀ slots count next = 256 - count
 
 -- the number of an item's variant, as the code tests it
 abbrev tag : Item → ℕ

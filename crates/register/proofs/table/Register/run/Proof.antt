@@ -22,8 +22,8 @@ loop-holds : tie.Need-loop-holds Inv-loop μ-loop
 unfolding ranFirst
 loop-holds c = (search needs, refl)
 
--- in the loop i is below 64
-below : (c : tie.In-loop Inv-loop μ-loop) → c .before .loop .i < 64
+-- in the loop i is below 256
+below : (c : tie.In-loop Inv-loop μ-loop) → c .before .loop .i < 256
 below c = omega (arith, c .loop-test .taken, c .before .before .in-batch .ensures)
 
 mul-judge : tie.Need-mul-judge Inv-loop μ-loop
@@ -105,7 +105,7 @@ loop-again c =
 
 returns : tie.Need-returns Inv-loop μ-loop
 returns c =
-    let end : c .before .loop .i ≡ min (c .before .before .before .args .count) 64 = omega (arith, c .loop-test .left, c .before .before .in-batch .ensures) in
+    let end : c .before .loop .i ≡ min (c .before .before .before .args .count) 256 = omega (arith, c .loop-test .left, c .before .before .in-batch .ensures) in
     rw end at (c .before .loop .inv .1)
 
 pub run-spec : {M : Type 1} → statement M
