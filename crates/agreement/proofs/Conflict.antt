@@ -15,7 +15,7 @@ use Rattle.register.specs.Tables.{trusted, parentOf, epochOf}
 use Rattle.register.specs.Views.{inView, says, signed, signers, notarised}
 use Rattle.register.specs.Chains.{chain, chainLength, chainNotarised}
 use Rattle.register.proofs.Chains.{length-step, on-own-chain, on-longer-chain, notarised-on, Ancestor, ancestor}
-use Rattle.register.proofs.Views.{enough-least}
+use Rattle.quorum.proofs.Enough.{enough-least}
 use Rattle.register.proofs.Finalising.{Consecutive}
 use Rattle.agreement.proofs.Safety.{Signature, Ordered, same, before, after, Safe, signature}
 

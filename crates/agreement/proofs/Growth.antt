@@ -20,7 +20,7 @@ use Rattle.register.specs.Tables.{trustedIn, trusted, madeIn, made, madeOf, par
 use Rattle.register.specs.Views.{inView, saysIn, says, signed, signers, notarised}
 use Rattle.register.specs.Chains.{chain, chainLength, valid, chainNotarised}
 use Rattle.register.proofs.Chains.{parent-le, on-chain-le, chain-kept}
-use Rattle.register.proofs.Views.{enough-make, enough-least}
+use Rattle.quorum.proofs.Enough.{enough-make, enough-least}
 use Rattle.register.proofs.Finalising.{Consecutive}
 
 -- from register r to register s

@@ -7,7 +7,7 @@ use native.Mathlib.Nat.{div-add-mod, mul-div-cancel-left, mul-suc, add-comm, lt-
 use native.Mathlib.Omega.{arith}
 use lib.ListN.{length, take, drop, length-append, length-take, length-drop, take-append-drop, drop-of-length-le}
 use lib.Pow.{pow-mono}
-use lib.Seq.{sets, length-sets, sets-eq, take-all, take-at, drop-at, drop-append-add, drop-drop, drop-nil}
+use lib.Seq.{sets, length-sets, take-all, take-at, drop-at, drop-append-add, drop-drop, drop-nil}
 use Rattle.packed_log.specs.Bits.{Bytes, toBits, num, bits, pack, bytes, field, put}
 use Rattle.packed_log.proofs.BitRows.{length-toBits, num-lt, num-toBits, toBits-num, part-append, sets-sets, sets-left, sets-right}
 
@@ -104,15 +104,6 @@ pub put-put : (l : List ℕ) (p : ℕ) (t u : List Bool) → put (put l p t) (p 
 put-put l p t u =
     put-pack (put l p t) (p + length t) u
     ∙ rw (length-put l p t, bits-put l p t, sets-sets (bits l) p t u) (sym (put-pack l p (t ++ u)))
-
--- the field where a row was laid is the number of that row
-pub field-put : (l : List ℕ) (p : ℕ) (t : List Bool) → p + length t ≤ 8 * length l → field (put l p t) p (length t) ≡ num t
-unfolding field
-field-put l p t h =
-    let room : p + length t ≤ length (bits l) = rw length-bits h in
-    let front : length (take p (bits l)) ≡ p = simp length-take (omega arith) in
-    let laid : bits (put l p t) ≡ take p (bits l) ++ (t ++ drop (p + length t) (bits l)) = bits-put l p t ∙ rw append-assoc at (sets-eq t (bits l) p room) in
-    rw (laid, drop-at (take p (bits l)) (t ++ drop (p + length t) (bits l)) p front, take-at t (drop (p + length t) (bits l)) (length t) refl)
 
 -- a field of w bits is below their power
 pub field-lt : (l : List ℕ) (p w : ℕ) → field l p w < 2 ^ w

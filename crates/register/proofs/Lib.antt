@@ -6,7 +6,6 @@ pub mod Places
 pub mod Naming
 pub mod FitnessLaws
 pub mod OpeningLaws
-pub mod Views
 pub mod Changing
 pub mod Accepted
 pub mod Scans
