@@ -13,11 +13,13 @@ use Rattle.words.specs.Tests.{choose, both, every, member}
 use Rattle.words.specs.Sums.{tally, unit, weigh}
 use Rattle.words.proofs.Tests.{both-left, both-right, both-make, either-cases, either-left, either-right, any-at, any-make, every-same}
 use Rattle.words.proofs.Sums.{weigh-more}
+use Rattle.tables.specs.Blocks.{trustedIn, madeIn, parentIn, epochIn}
+use Rattle.tables.specs.Messages.{saysIn}
 use Rattle.register.specs.declared.table.Made.{Made}
 use Rattle.register.specs.declared.table.Sent.{Sent}
 use Rattle.register.specs.declared.table.Register.{Register}
-use Rattle.register.specs.Tables.{trustedIn, trusted, madeIn, made, madeOf, parentIn, parentOf, epochIn, epochOf, sentOf}
-use Rattle.register.specs.Views.{inView, saysIn, says, signed, signers, notarised}
+use Rattle.register.specs.Tables.{trusted, made, madeOf, parentOf, epochOf, sentOf}
+use Rattle.register.specs.Views.{inView, says, signed, signers, notarised}
 use Rattle.register.specs.Chains.{chain, chainLength, valid, chainNotarised}
 use Rattle.register.proofs.Chains.{parent-le, on-chain-le, chain-kept}
 use Rattle.quorum.proofs.Enough.{enough-make, enough-least}

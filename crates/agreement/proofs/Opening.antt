@@ -17,7 +17,8 @@ use Rattle.words.proofs.Tests.{both-right}
 use Rattle.words.proofs.Sums.{weigh-more}
 use Rattle.words.proofs.Digits.{digit-lt, digit-fill}
 use Rattle.words.proofs.Refusals.{numbered, cleared}
-use Rattle.register.specs.Tables.{trustedIn, trusted, finalOf}
+use Rattle.tables.specs.Blocks.{trustedIn}
+use Rattle.register.specs.Tables.{trusted, finalOf}
 use Rattle.register.specs.Opening.{blank, closed, fresh, opening}
 use Rattle.agreement.specs.Moments.{Run, opened}
 use Rattle.agreement.proofs.Safety.{genesis, Safe}

@@ -9,9 +9,11 @@ use lib.Dec.{eqb}
 use Rattle.words.specs.Tests.{any}
 use Rattle.words.specs.Sums.{tally}
 use Rattle.words.proofs.Tests.{both-left, both-right, both-false, any-none}
+use Rattle.tables.specs.Blocks.{madeIn}
+use Rattle.tables.specs.Messages.{saysIn}
 use Rattle.register.specs.declared.table.Register.{Register}
-use Rattle.register.specs.Tables.{trusted, acted, made, parentOf, epochOf, madeIn, sentOf, signerOf, blockOf, finalOf}
-use Rattle.register.specs.Views.{saysIn, says}
+use Rattle.register.specs.Tables.{trusted, acted, made, parentOf, epochOf, sentOf, signerOf, blockOf, finalOf}
+use Rattle.register.specs.Views.{says}
 use Rattle.register.specs.Chains.{chainLength, chainNotarised, longer, longest}
 use Rattle.register.proofs.Tables.{Sizes}
 use Rattle.register.proofs.Finalising.{Consecutive}

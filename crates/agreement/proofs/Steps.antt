@@ -16,6 +16,8 @@ use Rattle.words.specs.Refusals.{Refusal, first}
 use Rattle.words.proofs.Tests.{both-right, both-false, both-make, either-false-left, either-false-right, any-at}
 use Rattle.words.proofs.Digits.{digit-lt, digit-raise-same, digit-raise-other}
 use Rattle.words.proofs.Refusals.{numbered, cleared}
+use Rattle.tables.specs.Blocks.{madeIn}
+use Rattle.tables.specs.Messages.{historyIn}
 use Rattle.register.specs.declared.sorts.Office.{Office}
 use Rattle.register.specs.declared.sorts.Epoch.{Epoch}
 use Rattle.register.specs.declared.sorts.Block.{Block}
@@ -26,10 +28,10 @@ use Rattle.register.specs.declared.step.Step.{Step}
 use Rattle.register.specs.declared.step.Step.the-variants as steps
 use Rattle.register.specs.declared.table.Sent.{Sent}
 use Rattle.register.specs.declared.table.Register.{Register}
-use Rattle.register.specs.Tables.{trusted, acted, block, made, parentOf, epochOf, named, sentOf, signerOf, blockOf, finalOf, madeIn, isVote}
+use Rattle.register.specs.Tables.{trusted, acted, block, made, parentOf, epochOf, named, sentOf, signerOf, blockOf, finalOf, isVote}
 use Rattle.register.specs.Views.{says}
 use Rattle.register.specs.Chains.{longest}
-use Rattle.register.specs.Refusals.{noOffice, noBlock, noMessage, offEpoch, notLongest, notFinal, historyIn, inHistory, forged, messagesFull}
+use Rattle.register.specs.Refusals.{noOffice, noBlock, noMessage, offEpoch, notLongest, notFinal, inHistory, forged, messagesFull}
 use Rattle.register.specs.Effects.{withBlock, withNamed, withSent, withMoved, withActed, withFinal, withNextEpoch}
 use Rattle.register.specs.Steps.{propose, vote, register, finalise, deliver, badSend, draft, advance, ruleOf, stepRule}
 use Rattle.register.proofs.Tables.{Sizes, sent-new}

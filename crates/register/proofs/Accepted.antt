@@ -4,20 +4,21 @@ use mathlib.Core.Path.{_≡_}
 use mathlib.Core.Bool.{true, false}
 use mathlib.Core.List.{List}
 use native.Mathlib.Omega.{arith}
-use borrow.Author.Tests.{eqb-true, ltb-true, eqb-false, ltb-false, leb-false, not-false}
+use borrow.Author.Tests.{eqb-true, ltb-true, eqb-false, leb-false, not-false}
 use Rattle.words.specs.Tests.{choose}
 use Rattle.words.specs.Digits.{digit}
 use Rattle.words.specs.Refusals.{Refusal, first, until}
 use Rattle.words.proofs.Tests.{both-left}
 use Rattle.words.proofs.Digits.{digit-lt}
 use Rattle.words.proofs.Refusals.{numbered, cleared}
+use Rattle.tables.specs.Blocks.{trustedIn}
 use Rattle.register.specs.declared.sorts.Office.{Office}
 use Rattle.register.specs.declared.sorts.Block.{Block}
 use Rattle.register.specs.declared.sorts.Message.{Message}
 use Rattle.register.specs.declared.table.Register.{Register}
-use Rattle.register.specs.Tables.{trustedIn, trusted, acted}
+use Rattle.register.specs.Tables.{trusted, acted}
 use Rattle.register.specs.Views.{inTransit, inInbox}
-use Rattle.register.specs.Refusals.{noOffice, noBlock, noMessage, barred, notInHand, notSent, messagesFull}
+use Rattle.register.specs.Refusals.{noOffice, noMessage, barred, notInHand, notSent, messagesFull}
 use Rattle.register.specs.Steps.{propose, vote, deliver, register}
 use Rattle.register.specs.Changes.{Movable}
 use Rattle.register.proofs.Places.{Placed, placed}
@@ -82,13 +83,10 @@ module _ (r : Register) (office : Office) (message : Message) where
   vote-room h = leb-false 1024 (r .count) (cleared 25 (vote r office message .tests) h)
 
 module _ (r : Register) (office : Office) (parent : Block) (payload : ℕ) where
-  -- a proposal that passes the tests up to 13: the parent has been made, and the office is trusted
-  pub propose-known : first (until 19 (propose r office parent payload .tests)) ≡ 0
-      → (parent .0 ≤ r .last .0) × (trusted r (office .0) ≡ true)
-  unfolding propose until numbered choose noBlock barred
-  propose-known h =
-      let tests : List Refusal = until 19 (propose r office parent payload .tests) in
-      (ltb-false (r .last .0) (parent .0) (cleared 6 tests h), not-false _ (cleared 9 tests h))
+  -- the office of a proposal that passes the tests up to 13 is trusted
+  pub propose-known : first (until 19 (propose r office parent payload .tests)) ≡ 0 → trusted r (office .0) ≡ true
+  unfolding propose until numbered choose barred
+  propose-known h = not-false _ (cleared 9 (until 19 (propose r office parent payload .tests)) h)
 
   -- the office that proposes is there, and is ready
   pub propose-ready : first (until 25 (propose r office parent payload .tests)) ≡ 0

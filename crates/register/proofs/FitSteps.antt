@@ -13,6 +13,7 @@ use Rattle.words.specs.Tests.{choose, either, lowest}
 use Rattle.words.specs.Refusals.{Refusal, first}
 use Rattle.words.proofs.Tests.{lowest-is, either-false-left, either-false-right}
 use Rattle.words.proofs.Refusals.{numbered, cleared}
+use Rattle.tables.specs.Blocks.{namedIn}
 use Rattle.register.specs.declared.sorts.Office.{Office}
 use Rattle.register.specs.declared.sorts.Epoch.{Epoch}
 use Rattle.register.specs.declared.sorts.Block.{Block}
@@ -22,7 +23,7 @@ use Rattle.register.specs.declared.step.Step.{Step}
 use Rattle.register.specs.declared.step.Step.the-variants as steps
 use Rattle.register.specs.declared.table.Sent.{Sent}
 use Rattle.register.specs.declared.table.Register.{Register}
-use Rattle.register.specs.Tables.{trusted, entry, parentOf, namedIn, named, sentOf}
+use Rattle.register.specs.Tables.{trusted, entry, parentOf, named, sentOf}
 use Rattle.register.specs.Refusals.{noOffice, noBlock, noMessage, wide, spent, messagesFull}
 use Rattle.register.specs.Effects.{withBlock, withNamed, withSent, withMoved, withActed, withFinal, withNextEpoch}
 use Rattle.register.specs.Steps.{propose, vote, register, finalise, deliver, badSend, draft, advance, ruleOf, stepRule}

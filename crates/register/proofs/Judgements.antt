@@ -13,6 +13,7 @@ use Rattle.words.specs.Digits.{fill}
 use Rattle.words.specs.Refusals.{Refusal, first}
 use Rattle.words.proofs.Tests.{decided, both-false}
 use Rattle.words.proofs.Refusals.{numbered, cleared}
+use Rattle.tables.specs.Blocks.{parentIn, namedIn}
 use Rattle.register.specs.declared.sorts.Office.{Office}
 use Rattle.register.specs.declared.sorts.Epoch.{Epoch}
 use Rattle.register.specs.declared.sorts.Block.{Block}
@@ -22,7 +23,7 @@ use Rattle.register.specs.declared.step.Step.{Step}
 use Rattle.register.specs.declared.step.Step.the-variants as steps
 use Rattle.register.specs.declared.change.Change.{Change}
 use Rattle.register.specs.declared.table.Register.{Register}
-use Rattle.register.specs.Tables.{trusted, acted, leaderOf, parentIn, parentOf, epochOf, named, namedIn, isVote, sentOf, blockOf}
+use Rattle.register.specs.Tables.{trusted, acted, leaderOf, parentOf, epochOf, named, isVote, sentOf, blockOf}
 use Rattle.register.specs.Views.{stage, inTransit, inInbox, inView, says, signed, signers, notarised}
 use Rattle.register.specs.Chains.{chain, chainLength, valid, chainNotarised, longer, longest}
 use Rattle.register.specs.Effects.{sentStage}

@@ -8,7 +8,6 @@ pub mod FitnessLaws
 pub mod OpeningLaws
 pub mod Changing
 pub mod Accepted
-pub mod Scans
 pub mod Sending
 pub mod Testing
 pub mod Ranges

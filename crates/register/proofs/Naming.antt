@@ -9,9 +9,10 @@ use lib.Dec.{eqb, ltb, leb}
 use lib.ListN.{getD}
 use Rattle.words.specs.Tests.{choose, both, lowest}
 use Rattle.words.proofs.Tests.{both-left, both-right, both-make, both-false, Lowest, lowest-is}
+use Rattle.tables.specs.Blocks.{madeIn, namedIn, alike, parentIn, epochIn}
 use Rattle.register.specs.declared.table.Made.{Made}
 use Rattle.register.specs.declared.table.Register.{Register}
-use Rattle.register.specs.Tables.{entry, madeIn, made, madeOf, namedIn, alike, parentIn, epochIn, parentOf, epochOf, named}
+use Rattle.register.specs.Tables.{entry, made, madeOf, parentOf, epochOf, named}
 use Rattle.register.specs.Refusals.{blocksFull}
 use Rattle.register.specs.Effects.{withBlock, withNamed}
 use Rattle.register.proofs.Tables.{Sizes, made-new}

@@ -11,11 +11,12 @@ use Rattle.words.specs.Refusals.{first}
 use Rattle.words.proofs.Tests.{both-right, clash}
 use Rattle.words.proofs.Digits.{digit-lt, digit-fill, digit-raise-same, fill-add, fill-ext}
 use Rattle.words.proofs.Refusals.{numbered, cleared}
+use Rattle.tables.specs.Blocks.{trustedIn}
 use Rattle.register.specs.declared.sorts.Office.{Office}
 use Rattle.register.specs.declared.sorts.Block.{Block}
 use Rattle.register.specs.declared.sorts.Kind.{Kind}
 use Rattle.register.specs.declared.table.Register.{Register}
-use Rattle.register.specs.Tables.{trustedIn, trusted}
+use Rattle.register.specs.Tables.{trusted}
 use Rattle.register.specs.Effects.{sentStage}
 use Rattle.register.specs.Refusals.{messagesFull}
 use Rattle.register.specs.Steps.{badSend}

@@ -1,22 +1,23 @@
 -- What the code finds of a register, said of the tests of a step.
-use Prim.Native.Nat.{ℕ, _+_, _<_, _≤_}
+use Prim.Native.Nat.{ℕ, _+_, _<_, _≤_, min}
 use mathlib.Core.Path.{_≡_, refl, ap, _∙_}
 use mathlib.Core.Bool.{Bool, true, false, not}
 use mathlib.Core.List.{List, [], _∷_, _++_}
 use native.Mathlib.Omega.{arith}
-use borrow.Author.Tests.{eq-eqb, ne-eqb, le-leb, lt-leb, lt-ltb, le-ltb, ltb-true, leb-true}
+use borrow.Author.Tests.{eq-eqb, ne-eqb, le-leb, lt-leb, lt-ltb, le-ltb, ltb-true}
 use lib.Dec.{eqb}
 use lib.ListN.{getD}
-use Rattle.words.specs.Tests.{choose, both, conj}
-use Rattle.words.proofs.Tests.{both-left, both-right, both-make, both-fails, both-all}
+use Rattle.words.specs.Tests.{both, conj}
+use Rattle.words.proofs.Tests.{both-make, both-fails, both-all}
+use Rattle.tables.specs.Blocks.{parentIn}
+use Rattle.tables.specs.Searches.{signedIn, longestBy}
+use Rattle.tables.proofs.Scans.{named-most}
 use Rattle.register.specs.declared.table.Register.{Register}
-use Rattle.register.specs.Tables.{trusted, madeIn, parentIn, parentOf, epochOf, named, sentOf}
-use Rattle.register.specs.Views.{stage, inInbox, signedIn}
+use Rattle.register.specs.Tables.{trusted, parentOf, epochOf, named, sentOf}
+use Rattle.register.specs.Views.{stage, inInbox}
 use Rattle.register.specs.Chains.{chainNotarised}
 use Rattle.register.specs.Refusals.{noOffice, noBlock, noMessage, barred, notInHand, entered, notLongest, finalises, blocksFull, messagesFull}
-use Rattle.register.specs.Searches.{longestBy}
-use Rattle.register.proofs.Scans.{signed-in, named-most}
-use Rattle.register.proofs.Searching.{soundOf, longest-by}
+use Rattle.register.proofs.Searching.{soundOf, signed-in, longest-by}
 
 -- the last of a list of tests, made after the others
 conj-last : (ts : List Bool) (t : Bool) → conj (ts ++ (t ∷ [])) ≡ both (conj ts) t
@@ -24,12 +25,6 @@ unfolding conj both
 conj-last [] t = both-all t
 conj-last (true ∷ ts) t = conj-last ts t
 conj-last (false ∷ ts) t = refl
-
--- a number that is kept only where a test holds
-kept-most : (t : Bool) (x k : ℕ) → (t ≡ true → x ≤ k) → choose t x 0 ≤ k
-unfolding choose
-kept-most true x k h = h refl
-kept-most false x k h = omega arith
 
 module _ (r : Register) where
   -- 6
@@ -78,28 +73,21 @@ module _ (r : Register) where
   is-in-hand q m h = ap not (eq-eqb (stage r q m) 2 h)
 
   -- 18, for a trusted office
-  pub entered-in : (q m : ℕ) → trusted r q ≡ true
-      → entered r q m ≡ signedIn (r .places) (r .signers) (r .subjects) (r .count) q (getD (r .signers) m 0) (getD (r .subjects) m 0)
+  pub entered-in : (q m : ℕ) → r .count ≤ 1024 → trusted r q ≡ true
+      → entered r q m ≡ signedIn (r .places) (r .signers) (r .subjects) (min (r .count) 1024) q (getD (r .signers) m 0) (getD (r .subjects) m 0)
   unfolding entered sentOf
-  entered-in q m t = signed-in r q (getD (r .signers) m 0) (getD (r .subjects) m 0) t
+  entered-in q m few t = signed-in r few q (getD (r .signers) m 0) (getD (r .subjects) m 0) t
 
   -- 19, for a trusted office
-  pub not-longest : (q b : ℕ) → trusted r q ≡ true
+  pub not-longest : (q b : ℕ) → r .count ≤ 1024 → r .n ≤ 32 → trusted r q ≡ true
       → longestBy (parentIn (r .parents) (r .last .0)) (soundOf r q) (r .last .0) b ≡ false → notLongest r q b ≡ true
   unfolding notLongest
-  not-longest q b t h = ap not (longest-by r q t b ∙ h)
+  not-longest q b few offices t h = ap not (longest-by r few offices q t b ∙ h)
 
-  pub is-longest : (q b : ℕ) → trusted r q ≡ true
+  pub is-longest : (q b : ℕ) → r .count ≤ 1024 → r .n ≤ 32 → trusted r q ≡ true
       → longestBy (parentIn (r .parents) (r .last .0)) (soundOf r q) (r .last .0) b ≡ true → notLongest r q b ≡ false
   unfolding notLongest
-  is-longest q b t h = ap not (longest-by r q t b ∙ h)
-
-  -- the parent of any number, which 19 asks about, is one of the blocks
-  pub parent-last : (b : ℕ) → parentOf r b ≤ r .last .0
-  unfolding parentOf parentIn madeIn
-  parent-last b =
-      kept-most _ (getD (r .parents) b 0) (r .last .0)
-      (λ t. omega (arith, ltb-true _ b (both-right _ _ t), leb-true b _ (both-right _ _ (both-left _ _ t))))
+  is-longest q b few offices t h = ap not (longest-by r few offices q t b ∙ h)
 
   -- 21, by the blocks and their epochs first, and then by the chain
   pub finalises-by : (q b c d : ℕ) → c ≡ parentOf r b → d ≡ parentOf r c

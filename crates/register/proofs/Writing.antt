@@ -11,6 +11,7 @@ use lib.Seq.{set-getD, set-set, set-comm}
 use Rattle.words.specs.Tests.{choose}
 use Rattle.words.specs.Digits.{raise, fill}
 use Rattle.words.specs.Refusals.{first}
+use Rattle.tables.proofs.Scans.{named-most}
 use Rattle.register.specs.declared.sorts.Office.{Office}
 use Rattle.register.specs.declared.sorts.Kind.the-variants.{Proposal, Vote}
 use Rattle.register.specs.declared.change.Change.{Change}
@@ -20,7 +21,6 @@ use Rattle.register.specs.Tables.{block, epoch, entry, isVote, named, tr
 use Rattle.register.specs.Effects.{withBlock, withNamed, sentStage, withSent, withMoved, withActed, withFinal, withNextEpoch}
 use Rattle.register.specs.Steps.{Rule, refusal, judged}
 use Rattle.register.specs.Changes.{headOf, stillOf, written, stepped, refusing, answer, heading, lastHead, sentHead, actedHead, nextHead, moving, movedOn, ending, making, naming, sending, drafted, finalised, voted, proposed}
-use Rattle.register.proofs.Scans.{named-most}
 
 -- A change, by what it makes of each column.
 by-columns : (r : Register) (c : Change) {P E W : List ℕ} {K : List Bool} {S B L F : List ℕ}

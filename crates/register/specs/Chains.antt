@@ -1,24 +1,16 @@
 -- Chains. A chain is the list of its blocks, newest first, without genesis, which every chain starts from.
-use Prim.Native.Nat.{ℕ, zero, suc, _+_}
+use Prim.Native.Nat.{ℕ, _+_}
 use mathlib.Core.Bool.{Bool, true, not}
 use mathlib.Core.List.{List, [], _∷_}
 use lib.Dec.{ltb}
 use lib.ListN.{length}
 use Rattle.words.specs.Tests.{both, any, every, member}
+use Rattle.tables.specs.Chains.{chainBy}
 use Rattle.register.specs.declared.table.Register.{Register}
 use Rattle.register.specs.Tables.{parentOf, epochOf}
 use Rattle.register.specs.Views.{notarised}
 
--- at most so many blocks on the way from block b to genesis, from parent to parent
-unfoldable pub climb : (parent : ℕ → ℕ) → (most : ℕ) → (b : ℕ) → List ℕ
-climb parent zero b = []
-climb parent (suc k) zero = []
-climb parent (suc k) (suc b) = suc b ∷ climb parent k (parent (suc b))
-
--- the chain of block b. A parent's number is smaller, so b blocks reach genesis.
-unfoldable pub chainBy : (parent : ℕ → ℕ) → ℕ → List ℕ
-chainBy parent b = climb parent b b
-
+-- the chain of block b, from parent to parent
 unfoldable pub chain : Register → ℕ → List ℕ
 chain r b = chainBy (parentOf r) b
 

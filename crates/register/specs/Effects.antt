@@ -4,11 +4,11 @@ use lib.Dec.{eqb, leb}
 use lib.ListN.{getD, set}
 use Rattle.words.specs.Tests.{choose}
 use Rattle.words.specs.Digits.{raise, fill}
+use Rattle.tables.specs.Messages.{absent, transit, view}
 use Rattle.register.specs.declared.table.Made.{Made}
 use Rattle.register.specs.declared.table.Sent.{Sent}
 use Rattle.register.specs.declared.table.Register.{Register}
 use Rattle.register.specs.Tables.{epoch, block, entry, trusted, named, isVote}
-use Rattle.register.specs.Views.{absent, transit, view}
 
 -- the next block is made so
 unfoldable pub withBlock : Register → Made → Register

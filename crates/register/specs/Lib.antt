@@ -1,4 +1,5 @@
--- The rules of the register. Read in this order; Searches and Changes are for contracts inside the crate alone.
+-- The rules of the register. Read in this order, after the specs of `tables`, where what single columns say is defined (each name that ends in
+-- `In`, the four stages, `chainBy`). Changes is for contracts inside the crate alone.
 pub mod Tables
 pub mod Views
 pub mod Chains
@@ -9,5 +10,4 @@ pub mod Effects
 pub mod Steps
 pub mod Runs
 pub mod Promises
-pub mod Searches
 pub mod Changes

@@ -1,14 +1,15 @@
 -- The tests behind a step's refusals, by the words of their numbers. Each is made on the register as it was handed in.
 use Prim.Native.Nat.{ℕ, _+_}
 use mathlib.Core.Bool.{Bool, false, not}
-use mathlib.Core.List.{List, [], _∷_}
+use mathlib.Core.List.{[], _∷_}
 use lib.Dec.{eqb, ltb, leb}
 use lib.ListN.{getD}
-use Rattle.words.specs.Tests.{both, either, agree, any, conj}
+use Rattle.words.specs.Tests.{both, either, conj}
+use Rattle.tables.specs.Messages.{historyIn}
 use Rattle.register.specs.declared.sorts.Kind.{Kind}
 use Rattle.register.specs.declared.table.Register.{Register}
 use Rattle.register.specs.Tables.{trusted, leaderOf, parentOf, epochOf, named, signerOf, blockOf, isVote}
-use Rattle.register.specs.Views.{inTransit, inInbox, signed, saysIn}
+use Rattle.register.specs.Views.{inTransit, inInbox, signed}
 use Rattle.register.specs.Chains.{chainNotarised, longest}
 
 -- 6: the number is not below n
@@ -77,10 +78,6 @@ unfoldable pub notFinal : Register → ℕ → ℕ → Bool
 notFinal r q b = not (finalises r q b)
 
 -- a message of that kind, signer and block has been sent
-unfoldable pub historyIn : (votes : List Bool) → (signers subjects : List ℕ) → (count : ℕ) → (vote : Bool) → (signer b : ℕ) → Bool
-historyIn votes signers subjects count vote signer b =
-    any count (λ m. both (agree (getD votes m false) vote) (saysIn signers subjects signer b m))
-
 unfoldable pub inHistory : Register → Kind → ℕ → ℕ → Bool
 inHistory r kind signer b = historyIn (r .votes) (r .signers) (r .subjects) (r .count) (isVote kind) signer b
 

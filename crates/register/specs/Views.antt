@@ -1,28 +1,15 @@
 -- Where a message is for an office, what stands in an office's view, and when a block is notarised there.
 use Prim.Native.Nat.{ℕ}
 use mathlib.Core.Bool.{Bool}
-use mathlib.Core.List.{List}
 use lib.Dec.{eqb, ltb}
 use lib.ListN.{getD}
 use Rattle.words.specs.Tests.{choose, both, either, any}
 use Rattle.words.specs.Sums.{tally}
 use Rattle.words.specs.Digits.{digit}
 use Rattle.quorum.specs.Enough.{enough}
+use Rattle.tables.specs.Messages.{absent, transit, inbox, view, saysIn}
 use Rattle.register.specs.declared.table.Register.{Register}
 use Rattle.register.specs.Tables.{trusted}
-
--- the four stages of a message for an office
-abbrev pub absent : ℕ
-absent = 0
-
-abbrev pub transit : ℕ
-transit = 1
-
-abbrev pub inbox : ℕ
-inbox = 2
-
-abbrev pub view : ℕ
-view = 3
 
 -- the stage of message m for office q. An untrusted office keeps nothing, and what was not sent is nowhere.
 unfoldable pub stage : Register → ℕ → ℕ → ℕ
@@ -38,20 +25,12 @@ unfoldable pub inView : Register → ℕ → ℕ → Bool
 inView r q m = eqb (stage r q m) view
 
 -- message m has that signer and that block
-unfoldable pub saysIn : (signers subjects : List ℕ) → (signer b : ℕ) → (m : ℕ) → Bool
-saysIn signers subjects signer b m = both (eqb (getD signers m 0) signer) (eqb (getD subjects m 0) b)
-
 unfoldable pub says : Register → ℕ → ℕ → ℕ → Bool
 says r signer b m = saysIn (r .signers) (r .subjects) signer b m
 
 -- a signature on block b is in office q's view: a message there has that signer and that block
 unfoldable pub signed : Register → (q : ℕ) → (signer : ℕ) → (b : ℕ) → Bool
 signed r q signer b = any (r .count) (λ m. both (inView r q m) (says r signer b m))
-
--- the same for a trusted office, by the tables
-unfoldable pub signedIn : (places signers subjects : List ℕ) → (count : ℕ) → (q signer b : ℕ) → Bool
-signedIn places signers subjects count q signer b =
-    any count (λ m. both (eqb (digit 4 (getD places m 0) q) view) (saysIn signers subjects signer b m))
 
 -- how many different offices' signatures on block b are in office q's view
 unfoldable pub signers : Register → ℕ → ℕ → ℕ

@@ -6,9 +6,8 @@ ghost use Prim.Native.Nat.{_+_, _≤_};
 ghost use lib.Dec.{ltb, leb};
 ghost use lib.ListN.{getD};
 ghost use Rattle.words.specs.Tests.{either, conj, all, between};
-ghost use Rattle.register.specs.Tables.{trustedIn};
+ghost use Rattle.tables.specs.Blocks.{trustedIn};
 ghost use Rattle.register.specs.Fitness.{blockFits, messageFits, fit};
-use crate::scan::entry;
 use crate::sorts::Epoch;
 use crate::table::Register;
 
@@ -79,7 +78,7 @@ fn messages_fit<'a>(
     let mut fits = true;
     let mut m = 0;
     while m < count {
-        fits = fits & message_fits(n, last, entry(signers, m), entry(subjects, m));
+        fits = fits & message_fits(n, last, signers[m], subjects[m]);
         m += 1;
     }
     fits

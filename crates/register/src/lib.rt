@@ -1,15 +1,11 @@
 // The shared register of plots: the offices' numbers, the register, its opening and the steps that change it.
-mod chain;
 mod change;
 mod fitness;
-mod notary;
 pub mod opening;
 mod read;
 pub mod refusal;
 pub mod run;
-mod scan;
 pub mod sorts;
-mod stage;
 pub mod step;
 mod steps;
 pub mod table;

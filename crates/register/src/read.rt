@@ -4,8 +4,6 @@ ghost use lib.Dec.{ltb};
 ghost use Rattle.words.specs.Tests.{choose};
 ghost use Rattle.register.specs.Tables.{block, trusted, finalOf};
 ghost use Rattle.register.specs.Chains.{chainLength};
-use crate::chain;
-use crate::scan;
 use crate::sorts::Block;
 use crate::sorts::Office;
 use crate::table::Register;
@@ -15,7 +13,7 @@ impl Register {
     pub fn is_trusted(self, office: Office) -> bool
         ensures { λ r. ⌜ r ≡ trusted self (office .0) ⌝ }
     {
-        scan::trusted_at(self.n, self.trust, office.0)
+        tables::trusted_at(self.n, self.trust, office.0)
     }
 
     // The office's final block; genesis for a number from 32 up, which is no office's.
@@ -33,6 +31,6 @@ impl Register {
     pub fn chain_length(self, b: Block) -> u8
         ensures { λ r. ⌜ r ≡ chainLength self (b .0) ⌝ }
     {
-        chain::length_of(&self.parents, self.last.0, b.0)
+        tables::length_of(&self.parents, self.last.0, b.0)
     }
 }

@@ -6,14 +6,12 @@ ghost use Prim.Native.Nat.{_+_, _<_, _≤_};
 ghost use lib.Dec.{leb};
 ghost use Rattle.words.specs.Digits.{digit, raise};
 ghost use Rattle.words.specs.Refusals.{_⇒_, first};
-ghost use Rattle.register.specs.Tables.{trustedIn, epochIn};
+ghost use Rattle.tables.specs.Blocks.{trustedIn, epochIn};
 ghost use Rattle.register.specs.Refusals.{leads, notLongest};
 ghost use Rattle.register.specs.Changes.{whole, heading, actedHead};
-use crate::chain;
 use crate::change::Change;
 use crate::change::Head;
 use crate::refusal;
-use crate::scan;
 
 // Office q is the leader of the current epoch.
 pub(crate) fn leads(head: Head, leaders: &[u8; 256], q: u8) -> bool
@@ -37,12 +35,12 @@ pub(crate) fn extend_refusal<'a>(
     parent: u8,
     epoch: u16,
 ) -> u8
-    requires { ⌜ (head .n ≤ 32) × (head .count ≤ 1024) × (trustedIn (head .n) (head .trust) q ≡ true) × (parent ≤ head .last .0) ⌝ }
+    requires { ⌜ (head .n ≤ 32) × (head .count ≤ 1024) × (trustedIn (head .n) (head .trust) q ≡ true) ⌝ }
     ensures { λ r. ⌜ r ≡ first ((notLongest (whole head [] (now (parents .entry)) (now (epochs .entry)) [] [] (now (signers .entry)) (now (subjects .entry)) (now (places .entry)) []) q parent ⇒ 19) ∷ (leb epoch (epochIn (now (epochs .entry)) (head .last .0) parent) ⇒ 20) ∷ []) ⌝ }
 {
     let last = head.last.0;
     let count = head.count as usize;
-    if !chain::is_longest(
+    if !tables::is_longest(
         head.n,
         last,
         count,
@@ -56,7 +54,7 @@ pub(crate) fn extend_refusal<'a>(
     ) {
         return refusal::NOT_LONGEST;
     }
-    if epoch <= scan::epoch_at(epochs, last, parent) {
+    if epoch <= tables::epoch_at(epochs, last, parent) {
         return refusal::EPOCHS;
     }
     0

@@ -12,7 +12,6 @@ ghost use Rattle.register.specs.Changes.{whole, answer, sending};
 use crate::change::Change;
 use crate::change::Head;
 use crate::refusal;
-use crate::scan;
 use crate::sorts::Block;
 use crate::sorts::Kind;
 use crate::sorts::Office;
@@ -41,10 +40,10 @@ fn is_forged<'a>(
     requires { ⌜ head .count ≤ 1024 ⌝ }
     ensures { λ r. ⌜ r ≡ forged (whole head [] [] [] [] (now (votes .entry)) (now (signers .entry)) (now (subjects .entry)) [] []) kind signer b ⌝ }
 {
-    if !scan::trusted_at(head.n, head.trust, signer) {
+    if !tables::trusted_at(head.n, head.trust, signer) {
         return false;
     }
-    !scan::in_history(
+    !tables::in_history(
         votes,
         signers,
         subjects,
@@ -75,7 +74,7 @@ fn bad_send_refusal<'a>(
     if (about.0 == 0) | (head.last.0 < about.0) {
         return refusal::NO_BLOCK;
     }
-    if scan::trusted_at(head.n, head.trust, sender.0) {
+    if tables::trusted_at(head.n, head.trust, sender.0) {
         return refusal::TRUSTED_SENDER;
     }
     if is_forged(head, votes, signers, subjects, kind, signer.0, about.0) {

@@ -10,9 +10,9 @@ use crate::change::Head;
 use crate::refusal;
 use crate::sorts::Message;
 use crate::sorts::Office;
-use crate::stage::TRANSIT;
 use crate::steps::place::move_on;
 use crate::steps::place::stage_of;
+use tables::TRANSIT;
 
 fn deliver_refusal(head: Head, places: &[u64; 1024], message: Message, office: Office) -> u8
     requires { ⌜ head .count ≤ 1024 ⌝ }

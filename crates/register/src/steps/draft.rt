@@ -3,12 +3,11 @@ ghost use mathlib.Core.Path.{_≡_};
 ghost use mathlib.Core.List.{[]};
 ghost use Prim.Native.Nat.{_≤_};
 ghost use Rattle.words.specs.Refusals.{first};
-ghost use Rattle.register.specs.Tables.{namedIn};
+ghost use Rattle.tables.specs.Blocks.{namedIn};
 ghost use Rattle.register.specs.Steps.{draft};
 ghost use Rattle.register.specs.Changes.{whole, answer, drafted};
 use crate::change::Change;
 use crate::refusal;
-use crate::scan;
 use crate::sorts::Block;
 use crate::sorts::Epoch;
 
@@ -31,7 +30,7 @@ pub(crate) fn draft<'a>(
     if 511 < epoch.0 {
         return still.refused(refusal::WIDE);
     }
-    let b = scan::name_block(
+    let b = tables::name_block(
         parents,
         epochs,
         payloads,

@@ -8,12 +8,11 @@ ghost use Rattle.register.specs.Changes.{whole, answer, movedOn};
 use crate::change::Change;
 use crate::change::Head;
 use crate::refusal;
-use crate::scan;
 use crate::sorts::Message;
 use crate::sorts::Office;
-use crate::stage::INBOX;
 use crate::steps::place::move_on;
 use crate::steps::place::stage_of;
+use tables::INBOX;
 
 // The refusal of a register step, 0 where there is none.
 fn enter_refusal<'a>(
@@ -34,7 +33,7 @@ fn enter_refusal<'a>(
     if head.count <= message.0 {
         return refusal::NO_MESSAGE;
     }
-    if !scan::trusted_at(head.n, head.trust, office.0) {
+    if !tables::trusted_at(head.n, head.trust, office.0) {
         return refusal::BARRED;
     }
     if stage_of(head, places, office.0, message.0) != INBOX {
@@ -44,14 +43,14 @@ fn enter_refusal<'a>(
     if !votes[at] {
         return refusal::KIND;
     }
-    if scan::is_signed(
+    if tables::is_signed(
         places,
         signers,
         subjects,
         head.count as usize,
         office.0,
-        scan::entry(signers, at),
-        scan::entry(subjects, at),
+        signers[at],
+        subjects[at],
     ) {
         return refusal::ENTERED;
     }

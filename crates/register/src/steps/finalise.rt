@@ -6,15 +6,13 @@ ghost use Prim.Native.Nat.{_+_, _≤_};
 ghost use lib.Dec.{eqb};
 ghost use Rattle.words.specs.Tests.{conj};
 ghost use Rattle.words.specs.Refusals.{first};
-ghost use Rattle.register.specs.Tables.{trustedIn, parentIn, epochIn};
+ghost use Rattle.tables.specs.Blocks.{trustedIn, parentIn, epochIn};
 ghost use Rattle.register.specs.Refusals.{finalises};
 ghost use Rattle.register.specs.Steps.{finalise};
 ghost use Rattle.register.specs.Changes.{whole, answer, finalised};
-use crate::chain;
 use crate::change::Change;
 use crate::change::Head;
 use crate::refusal;
-use crate::scan;
 use crate::sorts::Block;
 use crate::sorts::Office;
 
@@ -22,9 +20,9 @@ use crate::sorts::Office;
 fn are_consecutive<'a>(epochs: &'a [u16; 256], last: u8, b: u8, c: u8, d: u8) -> bool
     ensures { λ r. ⌜ r ≡ conj (not (eqb b 0) ∷ not (eqb c 0) ∷ not (eqb d 0) ∷ eqb (epochIn (now (epochs .entry)) last c) (epochIn (now (epochs .entry)) last d + 1) ∷ eqb (epochIn (now (epochs .entry)) last b) (epochIn (now (epochs .entry)) last d + 2) ∷ []) ⌝ }
 {
-    let newest = scan::epoch_at(epochs, last, b) as u32;
-    let middle = scan::epoch_at(epochs, last, c) as u32;
-    let oldest = scan::epoch_at(epochs, last, d) as u32;
+    let newest = tables::epoch_at(epochs, last, b) as u32;
+    let middle = tables::epoch_at(epochs, last, c) as u32;
+    let oldest = tables::epoch_at(epochs, last, d) as u32;
     (b != 0) & ((c != 0) & ((d != 0) & ((middle == oldest + 1) & (newest == oldest + 2))))
 }
 
@@ -39,17 +37,17 @@ fn is_final<'a>(
     q: u8,
     b: u8,
 ) -> bool
-    requires { ⌜ (head .n ≤ 32) × (head .count ≤ 1024) × (b ≤ head .last .0) × (trustedIn (head .n) (head .trust) q ≡ true) ⌝ }
+    requires { ⌜ (head .n ≤ 32) × (head .count ≤ 1024) × (trustedIn (head .n) (head .trust) q ≡ true) ⌝ }
     ensures { λ r. ⌜ r ≡ finalises (whole head [] (now (parents .entry)) (now (epochs .entry)) [] [] (now (signers .entry)) (now (subjects .entry)) (now (places .entry)) []) q b ⌝ }
 {
     let last = head.last.0;
-    let c = scan::parent_at(parents, last, b);
-    let d = scan::parent_at(parents, last, c);
+    let c = tables::parent_at(parents, last, b);
+    let d = tables::parent_at(parents, last, c);
     if !are_consecutive(epochs, last, b, c, d) {
         return false;
     }
     let count = head.count as usize;
-    chain::is_notarised(
+    tables::is_notarised(
         head.n,
         last,
         count,
@@ -83,7 +81,7 @@ fn finalise_refusal<'a>(
     if head.last.0 < newest.0 {
         return refusal::NO_BLOCK;
     }
-    if !scan::trusted_at(head.n, head.trust, office.0) {
+    if !tables::trusted_at(head.n, head.trust, office.0) {
         return refusal::BARRED;
     }
     if !is_final(
@@ -129,7 +127,7 @@ pub(crate) fn finalise<'a>(
     if refusal != 0 {
         return still.refused(refusal);
     }
-    let b = scan::parent_at(parents, head.last.0, newest.0);
+    let b = tables::parent_at(parents, head.last.0, newest.0);
     let mut ended = still.ended(office.0 as usize, b);
     ended.value = b as u16;
     ended

@@ -7,7 +7,6 @@ ghost use Rattle.register.specs.Views.{stage};
 ghost use Rattle.register.specs.Changes.{whole, Movable, movedOn};
 use crate::change::Change;
 use crate::change::Head;
-use crate::scan;
 
 // The stage of message m for office q.
 pub(crate) fn stage_of(head: Head, places: &[u64; 1024], q: u8, m: u16) -> u8
@@ -17,7 +16,7 @@ pub(crate) fn stage_of(head: Head, places: &[u64; 1024], q: u8, m: u16) -> u8
     if m >= head.count {
         return 0;
     }
-    if !scan::trusted_at(head.n, head.trust, q) {
+    if !tables::trusted_at(head.n, head.trust, q) {
         return 0;
     }
     words::stage(places[m as usize], q)

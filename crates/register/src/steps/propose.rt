@@ -4,14 +4,13 @@ ghost use mathlib.Core.List.{[]};
 ghost use Prim.Native.Nat.{_+_, _<_, _≤_};
 ghost use Rattle.words.specs.Digits.{digit, fill};
 ghost use Rattle.words.specs.Refusals.{first, until};
-ghost use Rattle.register.specs.Tables.{namedIn};
+ghost use Rattle.tables.specs.Blocks.{namedIn};
 ghost use Rattle.register.specs.Effects.{sentStage};
 ghost use Rattle.register.specs.Steps.{propose};
 ghost use Rattle.register.specs.Changes.{whole, answer, proposed};
 use crate::change::Change;
 use crate::change::Head;
 use crate::refusal;
-use crate::scan;
 use crate::sorts::Block;
 use crate::sorts::Office;
 use crate::steps::act;
@@ -35,7 +34,7 @@ fn leader_refusal(
     if head.last.0 < parent.0 {
         return refusal::NO_BLOCK;
     }
-    if !scan::trusted_at(head.n, head.trust, office.0) {
+    if !tables::trusted_at(head.n, head.trust, office.0) {
         return refusal::BARRED;
     }
     if words::has(head.acted, office.0) {
@@ -124,7 +123,7 @@ pub(crate) fn propose<'a>(
     if refusal != 0 {
         return still.refused(refusal);
     }
-    let b = scan::name_block(
+    let b = tables::name_block(
         parents,
         epochs,
         payloads,

@@ -6,7 +6,6 @@ ghost use Rattle.words.specs.Digits.{fill};
 ghost use Rattle.register.specs.Effects.{sentStage};
 ghost use Rattle.register.specs.Changes.{whole};
 use crate::change::Head;
-use crate::scan;
 use crate::steps::place::raised;
 
 // The word of a message's places where that office sends it: in transit to the trusted offices, and in the office's own view where
@@ -16,7 +15,7 @@ pub(crate) fn sent_place(head: Head, actor: u8) -> u64
     ensures { λ r. ⌜ r ≡ fill 4 (head .n) (sentStage (whole head [] [] [] [] [] [] [] [] []) actor) ⌝ }
 {
     let word = words::spread(head.trust, head.n);
-    if !scan::trusted_at(head.n, head.trust, actor) {
+    if !tables::trusted_at(head.n, head.trust, actor) {
         return word;
     }
     raised(raised(word, actor), actor)

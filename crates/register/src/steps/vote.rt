@@ -6,7 +6,7 @@ ghost use Prim.Native.Nat.{_+_, _<_, _≤_};
 ghost use lib.ListN.{getD};
 ghost use Rattle.words.specs.Digits.{digit, fill};
 ghost use Rattle.words.specs.Refusals.{first, until, since};
-ghost use Rattle.register.specs.Tables.{trustedIn};
+ghost use Rattle.tables.specs.Blocks.{trustedIn};
 ghost use Rattle.register.specs.Effects.{sentStage};
 ghost use Rattle.register.specs.Refusals.{offEpoch};
 ghost use Rattle.register.specs.Steps.{vote};
@@ -14,14 +14,13 @@ ghost use Rattle.register.specs.Changes.{whole, answer, Movable, voted};
 use crate::change::Change;
 use crate::change::Head;
 use crate::refusal;
-use crate::scan;
 use crate::sorts::Message;
 use crate::sorts::Office;
-use crate::stage::INBOX;
 use crate::steps::act;
 use crate::steps::place::raised;
 use crate::steps::place::stage_of;
 use crate::steps::sent::sent_place;
+use tables::INBOX;
 
 // The refusal of a vote by its tests up to 12: there is no such office or message, or the office is untrusted or has acted.
 fn ready_refusal(head: Head, office: Office, message: Message) -> u8
@@ -33,7 +32,7 @@ fn ready_refusal(head: Head, office: Office, message: Message) -> u8
     if head.count <= message.0 {
         return refusal::NO_MESSAGE;
     }
-    if !scan::trusted_at(head.n, head.trust, office.0) {
+    if !tables::trusted_at(head.n, head.trust, office.0) {
         return refusal::BARRED;
     }
     if words::has(head.acted, office.0) {
@@ -54,8 +53,8 @@ fn is_off_epoch<'a>(
     requires { ⌜ (1 ≤ head .epoch .0) × (head .epoch .0 ≤ 256) × (m < 1024) ⌝ }
     ensures { λ r. ⌜ r ≡ offEpoch (whole head (now (leaders .entry)) [] (now (epochs .entry)) [] [] (now (signers .entry)) (now (subjects .entry)) [] []) m ⌝ }
 {
-    let led = act::leads(head, leaders, scan::entry(signers, m));
-    let epoch = scan::epoch_at(epochs, head.last.0, scan::entry(subjects, m));
+    let led = act::leads(head, leaders, signers[m]);
+    let epoch = tables::epoch_at(epochs, head.last.0, subjects[m]);
     !led | (epoch != head.epoch.0)
 }
 
@@ -107,14 +106,14 @@ fn view_refusal<'a>(
     ensures { λ r. ⌜ r ≡ first (since 18 (vote (whole head [] (now (parents .entry)) (now (epochs .entry)) [] [] (now (signers .entry)) (now (subjects .entry)) (now (places .entry)) []) office message .tests)) ⌝ }
 {
     let at = message.0 as usize;
-    let b = scan::entry(subjects, at);
-    let signer = scan::entry(signers, at);
+    let b = subjects[at];
+    let signer = signers[at];
     let count = head.count as usize;
-    if scan::is_signed(places, signers, subjects, count, office.0, signer, b) {
+    if tables::is_signed(places, signers, subjects, count, office.0, signer, b) {
         return refusal::ENTERED;
     }
-    let parent = scan::parent_at(parents, head.last.0, b);
-    let epoch = scan::epoch_at(epochs, head.last.0, b);
+    let parent = tables::parent_at(parents, head.last.0, b);
+    let epoch = tables::epoch_at(epochs, head.last.0, b);
     let refusal = act::extend_refusal(
         head,
         parents,
@@ -195,7 +194,7 @@ fn cast<'a>(
     let at = m as usize;
     let head = still.head;
     let word = sent_place(head, q);
-    let sent = still.sent(true, q, scan::entry(subjects, at), word);
+    let sent = still.sent(true, q, subjects[at], word);
     act::acted(sent.moved(at, raised(places[at], q)), q)
 }
 

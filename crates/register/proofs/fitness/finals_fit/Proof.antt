@@ -9,7 +9,7 @@ use lib.Dec.{leb}
 use lib.ListN.{getD}
 use Rattle.words.specs.Tests.{both, either, all}
 use Rattle.words.proofs.Tests.{all-next, or-either}
-use Rattle.register.specs.Tables.{trustedIn}
+use Rattle.tables.specs.Blocks.{trustedIn}
 use Rattle.register.proofs.fitness.finals_fit.Statement.{statement}
 use Rattle.register.proofs.fitness.finals_fit.Tie as tie
 

@@ -1,7 +1,7 @@
 -- `register::fitness::messages_fit`: at each turn the messages below m have been tested.
 use borrow.Author.Needs.{needs}
 use Prim.Native.Nat.{_-_, _≤_}
-use mathlib.Core.Path.{_≡_, refl, _∙_}
+use mathlib.Core.Path.{_≡_, refl}
 use native.Mathlib.Omega.{arith}
 use lib.ListN.{getD}
 use Rattle.words.specs.Tests.{all}
@@ -20,11 +20,11 @@ loop-holds : tie.Need-loop-holds Inv-loop μ-loop
 unfolding all
 loop-holds c = (search needs, refl)
 
-entry-requires : tie.Need-entry-requires Inv-loop μ-loop
-entry-requires c κs = search needs
+element-copy-out-message-fits : tie.Need-element-copy-out-message-fits Inv-loop μ-loop
+element-copy-out-message-fits c = search needs
 
-entry-requires-2 : tie.Need-entry-requires-2 Inv-loop μ-loop
-entry-requires-2 c κs = search needs
+element-copy-out-message-fits-2 : tie.Need-element-copy-out-message-fits-2 Inv-loop μ-loop
+element-copy-out-message-fits-2 c = search needs
 
 message-fits-requires : tie.Need-message-fits-requires Inv-loop μ-loop
 message-fits-requires c κs = search needs
@@ -36,7 +36,7 @@ loop-less : tie.Need-loop-less Inv-loop μ-loop
 loop-less c = search needs
 
 loop-again : tie.Need-loop-again Inv-loop μ-loop
-loop-again c = (search needs, all-next _ _ _ _ (c .before .before .before .before .loop .inv .1) (c .message-fits .ensures ∙ rw (c .before .before .entry .ensures, c .before .entry2 .ensures)))
+loop-again c = (search needs, all-next _ _ _ _ (c .before .before .before .before .loop .inv .1) (c .message-fits .ensures))
 
 returns : tie.Need-returns Inv-loop μ-loop
 returns c =
@@ -50,8 +50,8 @@ messages-fit-spec =
     Inv-loop
     μ-loop
     loop-holds
-    entry-requires
-    entry-requires-2
+    element-copy-out-message-fits
+    element-copy-out-message-fits-2
     message-fits-requires
     add-m
     loop-less

@@ -16,16 +16,15 @@ cast-count : tie.Need-cast-count
 cast-count c = search needs
 
 is-longest-requires : tie.Need-is-longest-requires
-is-longest-requires c κs =
-    let p = c .before .pre in
-    (p .1, p .0, p .3)
+is-longest-requires c κs = search needs
 
 returns : tie.Need-returns
 unfolding first choose whole trusted
 returns c =
-    let a = c .before .before .before .args in
+    let entry = c .before .before .before in
+    let a = entry .args in
     let r : Register = whole (a .head) [] (a .parents .now) (a .epochs .now) [] [] (a .signers .now) (a .subjects .now) (a .places .now) [] in
-    rw (not-longest r (a .q) (a .parent) (c .before .before .before .pre .2) (sym (c .before .is-longest .ensures) ∙ not-true _ (c .if1 .taken)))
+    rw (not-longest r (a .q) (a .parent) (entry .pre .1) (entry .pre .0) (entry .pre .2) (sym (c .before .is-longest .ensures) ∙ not-true _ (c .if1 .taken)))
 
 epoch-at-requires : tie.Need-epoch-at-requires
 epoch-at-requires c κs = search needs
@@ -38,7 +37,7 @@ returns-2 c =
     let entry = at-is-longest .before .before in
     let a = entry .args in
     let r : Register = whole (a .head) [] (a .parents .now) (a .epochs .now) [] [] (a .signers .now) (a .subjects .now) (a .places .now) [] in
-    rw (is-longest r (a .q) (a .parent) (entry .pre .2) (sym (at-is-longest .is-longest .ensures) ∙ not-false _ (at-if1 .if1 .left)), ← (c .before .epoch-at .ensures), le-leb _ _ (c .if2 .taken))
+    rw (is-longest r (a .q) (a .parent) (entry .pre .1) (entry .pre .0) (entry .pre .2) (sym (at-is-longest .is-longest .ensures) ∙ not-false _ (at-if1 .if1 .left)), ← (c .before .epoch-at .ensures), le-leb _ _ (c .if2 .taken))
 
 returns-3 : tie.Need-returns-3
 unfolding first choose whole trusted
@@ -48,7 +47,7 @@ returns-3 c =
     let entry = at-is-longest .before .before in
     let a = entry .args in
     let r : Register = whole (a .head) [] (a .parents .now) (a .epochs .now) [] [] (a .signers .now) (a .subjects .now) (a .places .now) [] in
-    rw (is-longest r (a .q) (a .parent) (entry .pre .2) (sym (at-is-longest .is-longest .ensures) ∙ not-false _ (at-if1 .if1 .left)), ← (c .before .epoch-at .ensures), lt-leb _ _ (c .if2 .left))
+    rw (is-longest r (a .q) (a .parent) (entry .pre .1) (entry .pre .0) (entry .pre .2) (sym (at-is-longest .is-longest .ensures) ∙ not-false _ (at-if1 .if1 .left)), ← (c .before .epoch-at .ensures), lt-leb _ _ (c .if2 .left))
 
 pub extend-refusal-spec : {M : Type 1} → statement M
 extend-refusal-spec =

@@ -134,21 +134,21 @@ past-16 c =
 cast-is-signed : tie.Need-cast-is-signed
 cast-is-signed c = omega (arith, start-5 (c .before) .pre)
 
-entry-requires : tie.Need-entry-requires
-entry-requires c κs = sent (c .before .before .before .before .before .before .before .before)
+element-copy-out-is-signed : tie.Need-element-copy-out-is-signed
+element-copy-out-is-signed c = sent (c .before .before .before .before .before .before .before .before)
 
-entry-requires-2 : tie.Need-entry-requires-2
-entry-requires-2 c κs = sent (c .before .before .before .before .before .before .before .before .before)
+element-copy-out-is-signed-2 : tie.Need-element-copy-out-is-signed-2
+element-copy-out-is-signed-2 c = sent (c .before .before .before .before .before .before .before .before .before)
 
 is-signed-requires : tie.Need-is-signed-requires
-is-signed-requires c κs = start-5 (c .before .before .before) .pre
+is-signed-requires c κs = search needs
 
 -- the signature is in the view, or is not, as it was found
 looked : (c : tie.After-is-signed) → entered (given (start-5 (c .before .before .before .before))) (start-5 (c .before .before .before .before) .args .office .0) (start-5 (c .before .before .before .before) .args .message .0) ≡ c .is-signed .result
 unfolding given whole
 looked c =
     let s = start-5 (c .before .before .before .before) in
-    entered-in (given s) (s .args .office .0) (s .args .message .0) (safe (c .before .before .before .before .before .before .before .before .before)) ∙ sym (c .is-signed .ensures ∙ rw (c .before .before .entry .ensures, c .before .entry2 .ensures))
+    entered-in (given s) (s .args .office .0) (s .args .message .0) (s .pre) (safe (c .before .before .before .before .before .before .before .before .before)) ∙ sym (c .is-signed .ensures)
 
 returns-6 : tie.Need-returns-6
 unfolding tests given register first since choose whole
@@ -176,8 +176,8 @@ enter-refusal-spec =
     element-copy-out-if5
     returns-5
     cast-is-signed
-    entry-requires
-    entry-requires-2
+    element-copy-out-is-signed
+    element-copy-out-is-signed-2
     is-signed-requires
     returns-6
     returns-7)

@@ -51,7 +51,7 @@ returns-2 c =
     let r : Register = whole (a .head) [] (a .parents .now) (a .epochs .now) [] [] (a .signers .now) (a .subjects .now) (a .places .now) [] in
     let q : ℕ = a .q in
     let b : ℕ = a .b in
-    rw (finalises-by r q b _ _ (at-parent-at .parent-at .ensures) (at-parent-at2 .parent-at2 .ensures), ← (at-are-consecutive .are-consecutive .ensures), not-false (at-are-consecutive .are-consecutive .result) (at-if1 .if1 .left), chain-notarised-by r q (entry .pre .3) b)
+    rw (finalises-by r q b _ _ (at-parent-at .parent-at .ensures) (at-parent-at2 .parent-at2 .ensures), ← (at-are-consecutive .are-consecutive .ensures), not-false (at-are-consecutive .are-consecutive .result) (at-if1 .if1 .left), chain-notarised-by r (entry .pre .1) (entry .pre .0) q (entry .pre .2) b)
     (c .is-notarised .ensures)
 
 pub is-final-spec : {M : Type 1} → statement M

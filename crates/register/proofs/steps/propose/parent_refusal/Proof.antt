@@ -32,8 +32,7 @@ unfolding whole trusted
 extend-refusal-requires c κs =
     let a = c .before .before .args in
     let known = c .before .before .pre in
-    let found = propose-known _ (a .office) (a .parent) (a .payload) (sym (c .before .leader-refusal .ensures) ∙ c .if1 .left) in
-    (known .0, known .1, found .1, found .0)
+    (known .0, known .1, propose-known _ (a .office) (a .parent) (a .payload) (sym (c .before .leader-refusal .ensures) ∙ c .if1 .left))
 
 returns-2 : tie.Need-returns-2
 unfolding propose noOffice noBlock barred trusted acted leads leaderOf until since choose whole positive both notLongest longest longer chainNotarised valid chain chainLength parentOf epochOf notarised signers signed inView stage says epochs

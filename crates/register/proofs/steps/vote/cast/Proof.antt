@@ -13,8 +13,8 @@ sent s = omega (arith, s .pre .1, s .pre .3 .sent)
 sent-place-requires : tie.Need-sent-place-requires
 sent-place-requires c κs = c .before .pre .0
 
-entry-requires : tie.Need-entry-requires
-entry-requires c κs = sent (c .before .before)
+element-copy-out-sent : tie.Need-element-copy-out-sent
+element-copy-out-sent c = sent (c .before .before)
 
 sent-requires : tie.Need-sent-requires
 sent-requires c κs = c .before .before .before .pre .1
@@ -45,14 +45,14 @@ returns c =
     let at-raised = c .before .before in
     let at-sent = at-raised .before .before in
     let at-sent-place = at-sent .before .before in
-    rw (c .acted .ensures, c .before .moved .ensures, at-sent .sent .ensures, at-sent .before .entry .ensures, at-raised .raised .ensures, at-sent-place .sent-place .ensures)
+    rw (c .acted .ensures, c .before .moved .ensures, at-sent .sent .ensures, at-raised .raised .ensures, at-sent-place .sent-place .ensures)
 
 pub cast-spec : {M : Type 1} → statement M
 cast-spec =
     tie.close
     (tie.spec
     sent-place-requires
-    entry-requires
+    element-copy-out-sent
     sent-requires
     mul-raised
     element-copy-out-raised

@@ -7,28 +7,28 @@ use Rattle.register.specs.Changes.{whole}
 use Rattle.register.proofs.steps.vote.is_off_epoch.Statement.{statement}
 use Rattle.register.proofs.steps.vote.is_off_epoch.Tie as tie
 
-entry-requires : tie.Need-entry-requires
-entry-requires c κs = c .pre .2
+element-copy-out-leads : tie.Need-element-copy-out-leads
+element-copy-out-leads c = c .pre .2
 
 leads-requires : tie.Need-leads-requires
 leads-requires c κs = search needs
 
-entry-requires-2 : tie.Need-entry-requires-2
-entry-requires-2 c κs = c .before .before .pre .2
+element-copy-out-epoch-at : tie.Need-element-copy-out-epoch-at
+element-copy-out-epoch-at c = c .before .before .pre .2
 
 epoch-at-requires : tie.Need-epoch-at-requires
 epoch-at-requires c κs = search needs
 
 returns : tie.Need-returns
 unfolding offEpoch leads leaderOf epochOf sentOf whole
-returns c = rw (or-either, c .before .before .before .leads .ensures, c .before .epoch-at .ensures, c .before .before .before .before .entry .ensures, c .before .before .entry2 .ensures)
+returns c = rw (or-either, c .before .before .before .leads .ensures, c .before .epoch-at .ensures)
 
 pub is-off-epoch-spec : {M : Type 1} → statement M
 is-off-epoch-spec =
     tie.close
     (tie.spec
-    entry-requires
+    element-copy-out-leads
     leads-requires
-    entry-requires-2
+    element-copy-out-epoch-at
     epoch-at-requires
     returns)

@@ -1,18 +1,18 @@
 -- `view_refusal` makes its tests in their order, two of them together: past each of them those that are left decide.
 use borrow.Author.Needs.{needs}
 use Prim.Native.Nat.{_<_}
-use mathlib.Core.Path.{_≡_, refl, sym, ap, _∙_}
+use mathlib.Core.Path.{_≡_, refl, sym, _∙_}
 use mathlib.Core.List.{List, []}
 use native.Mathlib.Omega.{arith}
 use Rattle.words.specs.Tests.{choose, both}
 use Rattle.words.specs.Refusals.{Refusal, first, until, since}
 use Rattle.words.proofs.Refusals.{positive, first-early, first-late}
 use Rattle.register.specs.declared.table.Register.{Register}
-use Rattle.register.specs.Tables.{trusted, parentIn, parentOf, epochIn, epochOf, sentOf, blockOf}
+use Rattle.register.specs.Tables.{trusted, parentOf, epochOf, sentOf, blockOf}
 use Rattle.register.specs.Refusals.{entered, epochs}
 use Rattle.register.specs.Steps.{vote}
 use Rattle.register.specs.Changes.{whole}
-use Rattle.register.proofs.Testing.{entered-in, parent-last, no-room, has-room}
+use Rattle.register.proofs.Testing.{entered-in, no-room, has-room}
 use Rattle.register.proofs.steps.vote.view_refusal.Statement.{statement}
 use Rattle.register.proofs.steps.vote.view_refusal.Tie as tie
 
@@ -30,24 +30,24 @@ sent s = omega (arith, s .pre .1, s .pre .3)
 cast-at : tie.Need-cast-at
 cast-at c = omega (arith, sent (c .before))
 
-entry-requires : tie.Need-entry-requires
-entry-requires c κs = sent (c .before)
+element-copy-out-b : tie.Need-element-copy-out-b
+element-copy-out-b c = sent (c .before)
 
-entry-requires-2 : tie.Need-entry-requires-2
-entry-requires-2 c κs = sent (c .before .before)
+element-copy-out-signer : tie.Need-element-copy-out-signer
+element-copy-out-signer c = sent (c .before .before)
 
 cast-count : tie.Need-cast-count
 cast-count c = omega (arith, c .before .before .before .before .pre .1)
 
 is-signed-requires : tie.Need-is-signed-requires
-is-signed-requires c κs = c .before .before .before .before .pre .1
+is-signed-requires c κs = search needs
 
 -- the signature is in the view, or is not, as it was found
 looked : (c : tie.After-is-signed) → entered (given (c .before .before .before .before .before)) (c .before .before .before .before .before .args .office .0) (c .before .before .before .before .before .args .message .0) ≡ c .is-signed .result
 unfolding given trusted whole
 looked c =
     let s = c .before .before .before .before .before in
-    entered-in (given s) (s .args .office .0) (s .args .message .0) (s .pre .2) ∙ sym (c .is-signed .ensures ∙ rw (c .before .before .entry2 .ensures, c .before .before .before .entry .ensures))
+    entered-in (given s) (s .args .office .0) (s .args .message .0) (s .pre .1) (s .pre .2) ∙ sym (c .is-signed .ensures)
 
 returns : tie.Need-returns
 unfolding tests given vote first since choose whole
@@ -70,24 +70,18 @@ epoch-at-requires : tie.Need-epoch-at-requires
 epoch-at-requires c κs = search needs
 
 extend-refusal-requires : tie.Need-extend-refusal-requires
-unfolding given whole parentOf
 extend-refusal-requires c κs =
-    let s = start-1 (c .before .before) in
-    let known = s .pre in
-    (known .0, known .1, known .2, rw (c .before .parent-at .ensures) (parent-last (given s) _))
+    let known = start-1 (c .before .before) .pre in
+    (known .0, known .1, known .2)
 
 -- the parent and the epoch of the message's block
 parent : (c : tie.After-parent-at) → c .parent-at .result ≡ parentOf (given (start-1 (c .before))) (blockOf (given (start-1 (c .before))) (start-1 (c .before) .args .message .0))
 unfolding given parentOf sentOf whole
-parent c =
-    let a = start-1 (c .before) .args in
-    c .parent-at .ensures ∙ ap (parentIn (a .parents .now) (a .head .last .0)) (c .before .before .before .before .before .entry .ensures)
+parent c = c .parent-at .ensures
 
 epoch : (c : tie.After-epoch-at) → c .epoch-at .result ≡ epochOf (given (start-1 (c .before .before))) (blockOf (given (start-1 (c .before .before))) (start-1 (c .before .before) .args .message .0))
 unfolding given epochOf sentOf whole
-epoch c =
-    let a = start-1 (c .before .before) .args in
-    c .epoch-at .ensures ∙ ap (epochIn (a .epochs .now) (a .head .last .0)) (c .before .before .before .before .before .before .entry .ensures)
+epoch c = c .epoch-at .ensures
 
 -- 19 and 20 together
 extends : (c : tie.After-extend-refusal) → c .extend-refusal .result ≡ first (until 26 (since 19 (tests (start-1 (c .before .before .before)))))
@@ -125,8 +119,8 @@ view-refusal-spec =
     tie.close
     (tie.spec
     cast-at
-    entry-requires
-    entry-requires-2
+    element-copy-out-b
+    element-copy-out-signer
     cast-count
     is-signed-requires
     returns

@@ -1,0 +1,4 @@
+-- The laws of the definitions in specs/.
+pub mod Scans
+pub mod Chains
+pub mod Searching

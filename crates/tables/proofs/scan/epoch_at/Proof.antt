@@ -1,0 +1,27 @@
+-- `tables::scan::epoch_at` reads the epoch of a block that has been made.
+use borrow.Author.Needs.{needs}
+use Rattle.words.specs.Tests.{choose}
+use Rattle.tables.specs.Blocks.{epochIn}
+use Rattle.tables.proofs.scan.epoch_at.Statement.{statement}
+use Rattle.tables.proofs.scan.epoch_at.Tie as tie
+
+is-made-requires : tie.Need-is-made-requires
+is-made-requires c κs = search needs
+
+mul-result : tie.Need-mul-result
+mul-result c = search needs
+
+element-copy-out-result : tie.Need-element-copy-out-result
+element-copy-out-result c = search needs
+
+returns : tie.Need-returns
+unfolding epochIn choose
+returns c = rw (← (c .before .before .is-made .ensures), c .before .if1 .taken)
+
+returns-2 : tie.Need-returns-2
+unfolding epochIn choose
+returns-2 c = rw (← (c .before .is-made .ensures), c .if1 .left)
+
+pub epoch-at-spec : {M : Type 1} → statement M
+epoch-at-spec =
+    tie.close (tie.spec is-made-requires mul-result element-copy-out-result returns returns-2)

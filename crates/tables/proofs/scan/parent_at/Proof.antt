@@ -1,0 +1,24 @@
+-- `tables::scan::parent_at` names the entry of a block that has been made, where the entry is smaller.
+use borrow.Author.Needs.{needs}
+use Rattle.words.specs.Tests.{choose}
+use Rattle.words.proofs.Tests.{and-both}
+use Rattle.tables.specs.Blocks.{parentIn}
+use Rattle.tables.proofs.scan.parent_at.Statement.{statement}
+use Rattle.tables.proofs.scan.parent_at.Tie as tie
+
+element-copy-out-parent : tie.Need-element-copy-out-parent
+element-copy-out-parent c = search needs
+
+is-made-requires : tie.Need-is-made-requires
+is-made-requires c κs = search needs
+
+returns : tie.Need-returns
+unfolding parentIn choose
+returns c = rw (← (c .before .is-made .ensures), ← and-both, c .if1 .taken)
+
+returns-2 : tie.Need-returns-2
+unfolding parentIn choose
+returns-2 c = rw (← (c .before .is-made .ensures), ← and-both, c .if1 .left)
+
+pub parent-at-spec : {M : Type 1} → statement M
+parent-at-spec = tie.close (tie.spec element-copy-out-parent is-made-requires returns returns-2)

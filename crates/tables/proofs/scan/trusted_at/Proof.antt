@@ -1,0 +1,16 @@
+-- `tables::scan::trusted_at` makes both tests.
+use borrow.Author.Needs.{needs}
+use Rattle.words.proofs.Tests.{and-both}
+use Rattle.tables.specs.Blocks.{trustedIn}
+use Rattle.tables.proofs.scan.trusted_at.Statement.{statement}
+use Rattle.tables.proofs.scan.trusted_at.Tie as tie
+
+has-requires : tie.Need-has-requires
+has-requires c κs = search needs
+
+returns : tie.Need-returns
+unfolding trustedIn
+returns c = rw (c .has .ensures) (and-both _ _)
+
+pub trusted-at-spec : {M : Type 1} → statement M
+trusted-at-spec = tie.close (tie.spec has-requires returns)

@@ -1,0 +1,34 @@
+-- Offices and blocks, by the columns that hold them. A definition that ends in `In` speaks of columns; the one of its name that ends in
+-- `Of`, or in nothing, speaks of a register and stands in the specs of `register`.
+use Prim.Native.Nat.{ℕ, _+_}
+use mathlib.Core.Bool.{Bool}
+use mathlib.Core.List.{List}
+use lib.Dec.{eqb, ltb, leb}
+use lib.ListN.{getD}
+use Rattle.words.specs.Tests.{choose, both, lowest}
+use Rattle.words.specs.Digits.{digit}
+
+-- the office is there, and its bit in the trust word is 1
+unfoldable pub trustedIn : (n trust : ℕ) → (q : ℕ) → Bool
+trustedIn n trust q = both (ltb q n) (eqb (digit 2 trust q) 1)
+
+-- a block from 1 up to the last
+unfoldable pub madeIn : (last : ℕ) → ℕ → Bool
+madeIn last b = both (ltb 0 b) (leb b last)
+
+-- a block's parent; genesis where the block has none, or where its entry names no smaller block
+unfoldable pub parentIn : (parents : List ℕ) → (last : ℕ) → ℕ → ℕ
+parentIn parents last b = choose (both (madeIn last b) (ltb (getD parents b 0) b)) (getD parents b 0) 0
+
+-- a block's epoch; genesis has epoch 0
+unfoldable pub epochIn : (epochs : List ℕ) → (last : ℕ) → ℕ → ℕ
+epochIn epochs last b = choose (madeIn last b) (getD epochs b 0) 0
+
+-- a block with the first parent, epoch and payload has also the second
+unfoldable pub alike : (parent epoch payload : ℕ) → (p e w : ℕ) → Bool
+alike parent epoch payload p e w = both (eqb parent p) (both (eqb epoch e) (eqb payload w))
+
+-- the lowest block from 1 up that has that parent, epoch and payload; the next number where there is none
+unfoldable pub namedIn : (parents epochs payloads : List ℕ) → (last : ℕ) → (p e w : ℕ) → ℕ
+namedIn parents epochs payloads last p e w =
+    lowest last (λ k. alike (parentIn parents last (k + 1)) (epochIn epochs last (k + 1)) (getD payloads (k + 1) 0) p e w) + 1

@@ -1,0 +1,173 @@
+// Chains of blocks, and the search for a longer one.
+ghost use mathlib.Core.Path.{_≡_};
+ghost use mathlib.Core.Bool.{true};
+ghost use Prim.Native.Nat.{_+_, min};
+ghost use lib.Dec.{eqb, ltb};
+ghost use lib.ListN.{length};
+ghost use Rattle.words.specs.Tests.{both, either, any, every};
+ghost use Rattle.tables.specs.Blocks.{parentIn};
+ghost use Rattle.tables.specs.Chains.{chainBy};
+ghost use Rattle.tables.specs.Searches.{soundIn, soundFrom, climbed, longerBy, longestBy};
+use crate::notary::gather;
+use crate::scan::epoch_at;
+use crate::scan::message_count;
+use crate::scan::parent_at;
+
+// The length of block b's chain, genesis not counted.
+pub fn length_of<'a>(parents: &'a [u8; 256], last: u8, b: u8) -> u8
+    ensures { λ r. ⌜ r ≡ length (chainBy (parentIn (now (parents .entry)) last) b) ⌝ }
+{
+    let mut climbed = 0;
+    let mut at = b;
+    while at > 0 {
+        climbed += 1;
+        at = parent_at(parents, last, at);
+    }
+    climbed
+}
+
+// Block b is sound by its signers that were gathered: its epoch is greater than its parent's, and they are enough.
+fn is_sound<'a>(
+    sets: &'a [u32; 256],
+    parents: &'a [u8; 256],
+    epochs: &'a [u16; 256],
+    last: u8,
+    n: u8,
+    b: u8,
+) -> bool
+    ensures { λ r. ⌜ r ≡ soundFrom (now (sets .entry)) (now (parents .entry)) (now (epochs .entry)) last n b ⌝ }
+{
+    let parent = parent_at(parents, last, b);
+    let later = epoch_at(epochs, last, parent) < epoch_at(epochs, last, b);
+    later & quorum::is_enough(sets[b as usize], n)
+}
+
+// What a climb from a block to genesis meets: whether every block of the chain is sound, and then how many they are, else 0.
+pub(crate) struct Climb {
+    pub sound: bool,
+    pub length: u8,
+}
+
+// Climbs block b's chain, up to genesis or to the first block that is not sound.
+fn climb_chain<'a>(
+    sets: &'a [u32; 256],
+    parents: &'a [u8; 256],
+    epochs: &'a [u16; 256],
+    last: u8,
+    n: u8,
+    b: u8,
+) -> Climb
+    ensures { λ r. ⌜ r ≡ climbed (soundFrom (now (sets .entry)) (now (parents .entry)) (now (epochs .entry)) last n) (chainBy (parentIn (now (parents .entry)) last) b) ⌝ }
+{
+    let mut climbed = 0;
+    let mut at = b;
+    while at > 0 {
+        if !is_sound(sets, parents, epochs, last, n, at) {
+            return Climb {
+                sound: false,
+                length: 0,
+            };
+        }
+        climbed += 1;
+        at = parent_at(parents, last, at);
+    }
+    Climb {
+        sound: true,
+        length: climbed,
+    }
+}
+
+// A climb has come to genesis, or past another block to block b.
+fn is_met(at: u8, b: u8, climbed: u8) -> bool
+    ensures { λ r. ⌜ r ≡ either (eqb at 0) (both (eqb at b) (ltb 0 climbed)) ⌝ }
+{
+    (at == 0) | ((at == b) & (0 < climbed))
+}
+
+// Some block's chain is of sound blocks alone and longer than block b's, which is of sound blocks alone and so long. A chain is no longer
+// than its last block's number: so the walk starts past the length to beat, and a climb ends where what is left of it cannot be enough. A
+// climb that comes down to block b is of a longer chain, and need not go on to genesis.
+fn has_longer<'a>(
+    sets: &'a [u32; 256],
+    parents: &'a [u8; 256],
+    epochs: &'a [u16; 256],
+    last: u8,
+    n: u8,
+    b: u8,
+    beat: u8,
+) -> bool
+    requires { ⌜ (every (soundFrom (now sets) (now parents) (now epochs) last n) (chainBy (parentIn (now parents) last) b) ≡ true) × (length (chainBy (parentIn (now parents) last) b) ≡ beat) ⌝ }
+    ensures { λ r. ⌜ r ≡ any (last + 1) (longerBy (parentIn (now (parents .entry)) last) (soundFrom (now (sets .entry)) (now (parents .entry)) (now (epochs .entry)) last n) beat) ⌝ }
+{
+    let mut found = false;
+    let mut x = beat;
+    'walk: while x < last {
+        x += 1;
+        let mut climbed = 0;
+        let mut at = x;
+        'climb: while beat < climbed + at {
+            if is_met(at, b, climbed) {
+                found = true;
+                break 'walk;
+            }
+            if !is_sound(sets, parents, epochs, last, n, at) {
+                break 'climb;
+            }
+            climbed += 1;
+            at = parent_at(parents, last, at);
+        }
+    }
+    found
+}
+
+// The number of offices, or 32, which is the most that there can be, where it is more.
+fn office_count(n: u8) -> u8
+    ensures { λ r. ⌜ r ≡ min n 32 ⌝ }
+{
+    if n < 32 { n } else { 32 }
+}
+
+// The chain of block b is notarised in office q's view.
+pub fn is_notarised<'a>(
+    n: u8,
+    last: u8,
+    count: usize,
+    places: &'a [u64; 1024],
+    signers: &'a [u8; 1024],
+    subjects: &'a [u8; 1024],
+    parents: &'a [u8; 256],
+    epochs: &'a [u16; 256],
+    q: u8,
+    b: u8,
+) -> bool
+    ensures { λ r. ⌜ r ≡ every (soundIn (now (places .entry)) (now (signers .entry)) (now (subjects .entry)) (now (parents .entry)) (now (epochs .entry)) (min count 1024) (min n 32) last q) (chainBy (parentIn (now (parents .entry)) last) b) ⌝ }
+{
+    let offices = office_count(n);
+    let sets = gather(places, signers, subjects, message_count(count), q);
+    let up = climb_chain(&sets, parents, epochs, last, offices, b);
+    up.sound
+}
+
+// The chain of block b is notarised in office q's view, and no notarised chain of that view is longer.
+pub fn is_longest<'a>(
+    n: u8,
+    last: u8,
+    count: usize,
+    places: &'a [u64; 1024],
+    signers: &'a [u8; 1024],
+    subjects: &'a [u8; 1024],
+    parents: &'a [u8; 256],
+    epochs: &'a [u16; 256],
+    q: u8,
+    b: u8,
+) -> bool
+    ensures { λ r. ⌜ r ≡ longestBy (parentIn (now (parents .entry)) last) (soundIn (now (places .entry)) (now (signers .entry)) (now (subjects .entry)) (now (parents .entry)) (now (epochs .entry)) (min count 1024) (min n 32) last q) last b ⌝ }
+{
+    let offices = office_count(n);
+    let sets = gather(places, signers, subjects, message_count(count), q);
+    let up = climb_chain(&sets, parents, epochs, last, offices, b);
+    if !up.sound {
+        return false;
+    }
+    !has_longer(&sets, parents, epochs, last, offices, b, up.length)
+}

@@ -1,0 +1,18 @@
+// What the columns of the register's tables say: of one office, block or message, of an office's view, and of chains. A column is lent whole;
+// no function here knows the register. A count of more than 1,024 messages or 32 offices counts as that.
+mod chain;
+mod notary;
+mod scan;
+mod stage;
+
+pub use chain::is_longest;
+pub use chain::is_notarised;
+pub use chain::length_of;
+pub use scan::epoch_at;
+pub use scan::in_history;
+pub use scan::is_signed;
+pub use scan::name_block;
+pub use scan::parent_at;
+pub use scan::trusted_at;
+pub use stage::INBOX;
+pub use stage::TRANSIT;

@@ -1,0 +1,208 @@
+// What the columns say of one block or one message: a look at an entry, and walks that look for one.
+ghost use mathlib.Core.Path.{_≡_};
+ghost use Prim.Native.Nat.{_+_, _≤_, _<_, min};
+ghost use lib.Dec.{eqb};
+ghost use lib.ListN.{getD};
+ghost use Rattle.words.specs.Tests.{both, any};
+ghost use Rattle.words.specs.Digits.{digit};
+ghost use Rattle.tables.specs.Blocks.{trustedIn, madeIn, parentIn, epochIn, alike, namedIn};
+ghost use Rattle.tables.specs.Messages.{view, saysIn, historyIn};
+ghost use Rattle.tables.specs.Searches.{signedIn};
+use crate::stage::VIEW;
+
+// So many messages the columns have room for.
+const MESSAGES: usize = 1024;
+
+// So many of them are looked at together.
+const CHUNK: usize = 64;
+
+// Office q is there and its bit in the trust word is 1.
+pub fn trusted_at(n: u8, trust: u32, q: u8) -> bool
+    ensures { λ r. ⌜ r ≡ trustedIn n trust q ⌝ }
+{
+    (q < n) & words::has(trust, q)
+}
+
+// Block b has been made and is not genesis.
+fn is_made(last: u8, b: u8) -> bool
+    ensures { λ r. ⌜ r ≡ madeIn last b ⌝ }
+{
+    (0 < b) & (b <= last)
+}
+
+// The parent of block b; genesis where b has none, or where its entry names no smaller block.
+pub fn parent_at<'a>(parents: &'a [u8; 256], last: u8, b: u8) -> u8
+    ensures { λ r. ⌜ r ≡ parentIn (now (parents .entry)) last b ⌝ }
+{
+    let parent = parents[b as usize];
+    if is_made(last, b) & (parent < b) {
+        return parent;
+    }
+    0
+}
+
+// The epoch of block b; genesis has epoch 0.
+pub fn epoch_at<'a>(epochs: &'a [u16; 256], last: u8, b: u8) -> u16
+    ensures { λ r. ⌜ r ≡ epochIn (now (epochs .entry)) last b ⌝ }
+{
+    if is_made(last, b) {
+        return epochs[b as usize];
+    }
+    0
+}
+
+// A block with the first parent, epoch and payload has also the second.
+fn is_alike(parent: u8, epoch: u16, payload: u16, p: u8, e: u16, w: u16) -> bool
+    ensures { λ r. ⌜ r ≡ alike parent epoch payload p e w ⌝ }
+{
+    (parent == p) & ((epoch == e) & (payload == w))
+}
+
+// The lowest block that has parent p, epoch e and payload w; the next number where there is none.
+pub fn name_block<'a>(
+    parents: &'a [u8; 256],
+    epochs: &'a [u16; 256],
+    payloads: &'a [u16; 256],
+    last: u8,
+    p: u8,
+    e: u16,
+    w: u16,
+) -> u16
+    ensures { λ r. ⌜ r ≡ namedIn (now (parents .entry)) (now (epochs .entry)) (now (payloads .entry)) last p e w ⌝ }
+{
+    let mut k = 0;
+    while k < last {
+        let b = k + 1;
+        let parent = parent_at(parents, last, b);
+        let epoch = epoch_at(epochs, last, b);
+        if is_alike(parent, epoch, payloads[b as usize], p, e, w) {
+            return b as u16;
+        }
+        k += 1;
+    }
+    (last as u16) + 1
+}
+
+// The number of messages, or that of the columns' entries where it is more.
+pub(crate) fn message_count(count: usize) -> usize
+    ensures { λ r. ⌜ r ≡ min count 1024 ⌝ }
+{
+    if count < MESSAGES { count } else { MESSAGES }
+}
+
+// Message m has that signer and that block.
+fn says<'a>(signers: &'a [u8; 1024], subjects: &'a [u8; 1024], signer: u8, b: u8, m: usize) -> bool
+    requires { ⌜ m < 1024 ⌝ }
+    ensures { λ r. ⌜ r ≡ saysIn (now (signers .entry)) (now (subjects .entry)) signer b m ⌝ }
+{
+    (signers[m] == signer) & (subjects[m] == b)
+}
+
+// A message of that kind, signer and block has been sent.
+pub fn in_history<'a>(
+    votes: &'a [bool; 1024],
+    signers: &'a [u8; 1024],
+    subjects: &'a [u8; 1024],
+    count: usize,
+    vote: bool,
+    signer: u8,
+    b: u8,
+) -> bool
+    ensures { λ r. ⌜ r ≡ historyIn (now (votes .entry)) (now (signers .entry)) (now (subjects .entry)) (min count 1024) vote signer b ⌝ }
+{
+    let sent = message_count(count);
+    let mut found = false;
+    let mut m = 0;
+    while m < sent {
+        found = found | ((votes[m] == vote) & says(signers, subjects, signer, b, m));
+        m += 1;
+    }
+    found
+}
+
+// One of the messages of the chunk that starts at `from` has that signer and that block. No branch in the loop, so that many
+// entries are compared at once.
+fn chunk_says<'a>(
+    signers: &'a [u8; 1024],
+    subjects: &'a [u8; 1024],
+    from: usize,
+    signer: u8,
+    b: u8,
+) -> bool
+    requires { ⌜ from ≤ 960 ⌝ }
+    ensures { λ r. ⌜ r ≡ any 64 (λ i. saysIn (now (signers .entry)) (now (subjects .entry)) signer b (from + i)) ⌝ }
+{
+    let mut found = false;
+    let mut i = 0;
+    while i < CHUNK {
+        found = found | says(signers, subjects, signer, b, from + i);
+        i += 1;
+    }
+    found
+}
+
+// One of the first `size` messages of that chunk is in office q's view and has that signer and that block. The places are read
+// only where the chunk has such a message at all.
+fn chunk_signed<'a>(
+    places: &'a [u64; 1024],
+    signers: &'a [u8; 1024],
+    subjects: &'a [u8; 1024],
+    from: usize,
+    size: usize,
+    q: u8,
+    signer: u8,
+    b: u8,
+) -> bool
+    requires { ⌜ (from ≤ 960) × (size ≤ 64) ⌝ }
+    ensures { λ r. ⌜ r ≡ any size (λ i. both (eqb (digit 4 (getD (now (places .entry)) (from + i) 0) q) view) (saysIn (now (signers .entry)) (now (subjects .entry)) signer b (from + i))) ⌝ }
+{
+    if !chunk_says(signers, subjects, from, signer, b) {
+        return false;
+    }
+    let mut i = 0;
+    while i < size {
+        let m = from + i;
+        if (words::stage(places[m], q) == VIEW) & says(signers, subjects, signer, b, m) {
+            return true;
+        }
+        i += 1;
+    }
+    false
+}
+
+// How many messages the chunk that starts at `from` has: a whole chunk, or what is left of the count.
+fn chunk_size(from: usize, count: usize) -> usize
+    requires { ⌜ from ≤ count ⌝ }
+    ensures { λ r. ⌜ from + r ≡ min (from + 64) count ⌝ }
+{
+    if count - from < CHUNK {
+        count - from
+    } else {
+        CHUNK
+    }
+}
+
+// A message in the view of office q, which is trusted, has that signer and that block. The messages are looked at by chunks.
+pub fn is_signed<'a>(
+    places: &'a [u64; 1024],
+    signers: &'a [u8; 1024],
+    subjects: &'a [u8; 1024],
+    count: usize,
+    q: u8,
+    signer: u8,
+    b: u8,
+) -> bool
+    ensures { λ r. ⌜ r ≡ signedIn (now (places .entry)) (now (signers .entry)) (now (subjects .entry)) (min count 1024) q signer b ⌝ }
+{
+    let sent = message_count(count);
+    let mut k = 0;
+    while CHUNK * k < sent {
+        let from = CHUNK * k;
+        let size = chunk_size(from, sent);
+        if chunk_signed(places, signers, subjects, from, size, q, signer, b) {
+            return true;
+        }
+        k += 1;
+    }
+    false
+}
