@@ -4,7 +4,10 @@ ghost use mathlib.Core.Bool.{true};
 ghost use Prim.Native.Nat.{_+_, min};
 ghost use lib.Dec.{eqb, ltb};
 ghost use lib.ListN.{length};
+ghost use Rattle.quorum.specs.Enough.{enough};
 ghost use Rattle.words.specs.Tests.{both, either, any, every};
+ghost use Rattle.words.specs.Sums.{tally};
+ghost use Rattle.words.specs.Digits.{digit};
 ghost use Rattle.tables.specs.Blocks.{parentIn};
 ghost use Rattle.tables.specs.Chains.{chainBy};
 ghost use Rattle.tables.specs.Searches.{soundIn, soundFrom, climbed, longerBy, longestBy};
@@ -26,20 +29,12 @@ pub fn length_of<'a>(parents: &'a [u8; 256], last: u8, b: u8) -> u8
     climbed
 }
 
-// Block b is sound by its signers that were gathered: its epoch is greater than its parent's, and they are enough.
-fn is_sound<'a>(
-    sets: &'a [u32; 256],
-    parents: &'a [u8; 256],
-    epochs: &'a [u16; 256],
-    last: u8,
-    n: u8,
-    b: u8,
-) -> bool
-    ensures { λ r. ⌜ r ≡ soundFrom (now (sets .entry)) (now (parents .entry)) (now (epochs .entry)) last n b ⌝ }
+// A block is sound that has that set of signers and that epoch, where its parent has the epoch below: its epoch is greater, and its signers
+// are enough.
+fn is_sound(set: u32, n: u8, below: u16, epoch: u16) -> bool
+    ensures { λ r. ⌜ r ≡ both (ltb below epoch) (enough (tally n (λ s. eqb (digit 2 set s) 1)) n) ⌝ }
 {
-    let parent = parent_at(parents, last, b);
-    let later = epoch_at(epochs, last, parent) < epoch_at(epochs, last, b);
-    later & quorum::is_enough(sets[b as usize], n)
+    (below < epoch) & quorum::is_enough(set, n)
 }
 
 // What a climb from a block to genesis meets: whether every block of the chain is sound, and then how many they are, else 0.
@@ -61,15 +56,19 @@ fn climb_chain<'a>(
 {
     let mut climbed = 0;
     let mut at = b;
+    let mut epoch = epoch_at(epochs, last, b);
     while at > 0 {
-        if !is_sound(sets, parents, epochs, last, n, at) {
+        let parent = parent_at(parents, last, at);
+        let below = epoch_at(epochs, last, parent);
+        if !is_sound(sets[at as usize], n, below, epoch) {
             return Climb {
                 sound: false,
                 length: 0,
             };
         }
         climbed += 1;
-        at = parent_at(parents, last, at);
+        at = parent;
+        epoch = below;
     }
     Climb {
         sound: true,
@@ -105,16 +104,20 @@ fn has_longer<'a>(
         x += 1;
         let mut climbed = 0;
         let mut at = x;
+        let mut epoch = epoch_at(epochs, last, x);
         'climb: while beat < climbed + at {
             if is_met(at, b, climbed) {
                 found = true;
                 break 'walk;
             }
-            if !is_sound(sets, parents, epochs, last, n, at) {
+            let parent = parent_at(parents, last, at);
+            let below = epoch_at(epochs, last, parent);
+            if !is_sound(sets[at as usize], n, below, epoch) {
                 break 'climb;
             }
             climbed += 1;
-            at = parent_at(parents, last, at);
+            at = parent;
+            epoch = below;
         }
     }
     found

@@ -1,18 +1,26 @@
 // Who signed each block, in an office's view.
 ghost use mathlib.Core.Path.{_≡_};
 ghost use Prim.Native.Nat.{ℕ, _≤_, _<_};
-ghost use lib.ListN.{getD};
+ghost use lib.Dec.{eqb};
+ghost use lib.ListN.{getD, set};
+ghost use Rattle.words.specs.Tests.{choose, either};
+ghost use Rattle.words.specs.Digits.{digit};
+ghost use Rattle.tables.specs.Messages.{view};
 ghost use Rattle.tables.specs.Searches.{signedIn, setOf};
 
-// A block's number as an index: below 256, which is known of a parameter and not of an entry of a column that is lent.
-fn index(b: u8) -> usize
-    ensures { λ r. ⌜ (r ≡ b) × (r < 256) ⌝ }
+// One message more: where it is in office q's view, its last stage, its signer is among the signers of its block. A signer from 32 up is no
+// office, and is left out. A block's number is below 256, which a caller that has it from a column learns here.
+fn note(sets: &mut [u32; 256], place: u64, q: u8, signer: u8, subject: u8)
+    ensures { λ _. ⌜ (now (sets .exit) ≡ choose (eqb (digit 4 place q) view) (set (now (sets .entry)) subject (setOf (λ s. either (eqb (digit 2 (getD (now (sets .entry)) subject 0) s) 1) (eqb signer s)))) (now (sets .entry))) × (subject < 256) ⌝ }
 {
-    b as usize
+    if words::is_last_stage(place, q) {
+        let b = subject as usize;
+        sets[b] = words::with_member(sets[b], signer);
+    }
 }
 
-// Each block's signers in office q's view, as a set of offices, by one pass over the messages. The view is the last stage of a message. A
-// signer from 32 up is no office, and is left out.
+// Each block's signers in office q's view, as a set of offices, by one pass over the messages from both ends: messages next to each other are
+// often about one block, and its set would be waited for.
 pub(crate) fn gather<'a>(
     places: &'a [u64; 1024],
     signers: &'a [u8; 1024],
@@ -24,15 +32,13 @@ pub(crate) fn gather<'a>(
     ensures { λ r. ⌜ ((b : ℕ) → b < 256 → getD r b 0 ≡ setOf (λ s. signedIn (now (places .entry)) (now (signers .entry)) (now (subjects .entry)) count q s b)) ⌝ }
 {
     let mut sets = [0u32; 256];
-    let mut next = 0;
-    while next < count {
-        let m = next;
-        next += 1;
-        if !words::is_last_stage(places[m], q) {
-            continue;
-        }
-        let b = index(subjects[m]);
-        sets[b] = words::with_member(sets[b], signers[m]);
+    let mut low = 0;
+    let mut high = count;
+    while low < high {
+        high -= 1;
+        note(&mut sets, places[low], q, signers[low], subjects[low]);
+        note(&mut sets, places[high], q, signers[high], subjects[high]);
+        low += 1;
     }
     sets
 }

@@ -4,11 +4,11 @@ use mathlib.Core.Path.{_≡_, refl, sym, ap, _∙_}
 use mathlib.Core.Bool.{Bool, true, false}
 use mathlib.Core.Logic.{⊎-elim}
 use native.Mathlib.Nat.{add-comm, add-mul, add-zero, eq-of-mul-eq-mul-right, eq-or-lt-of-le, lt-of-lt-of-le, mul-assoc, mul-comm, mul-zero, one-le-pow, one-mul, pow-le-pow-right, pow-suc, pow-succ', pow-zero, zero-add, zero-mul}
-use native.Mathlib.Nat.{add-div-right, add-mod-mod, add-mul-div-right, add-mul-mod-self-right, div-add-mod', div-div-eq-div-mul, div-eq-of-lt, div-lt-iff-lt-mul, mod-add-mod, mod-eq-of-lt, mod-lt, mod-one, mul-mod-right, zero-div, zero-mod}
+use native.Mathlib.Nat.{add-div-right, add-mul-div-right, add-mul-mod-self-right, div-add-mod', div-div-eq-div-mul, div-eq-of-lt, div-lt-iff-lt-mul, mod-add-mod, mod-eq-of-lt, mod-lt, mod-one, mul-mod-right, zero-div, zero-mod}
 use native.Mathlib.Decide.{ℕ-discrete, decLt, decLe, le-ind}
 use native.Mathlib.Numerals.{add-one}
 use native.Mathlib.Omega.{arith}
-use borrow.Author.Tests.{eq-eqb, eqb-false, ne-eqb}
+use borrow.Author.Tests.{eq-eqb, ne-eqb}
 use lib.Arith.{digits-lt, digits-div, mod-mul}
 use lib.Bits.{bitAnd, bitOr, and-high, or-lt, or-mod, or-shr, or-zero-l}
 use lib.Count.{ones, onesIn, ones-cat}
@@ -17,7 +17,7 @@ use lib.Pow.{pow-add}
 use Rattle.words.specs.Digits.{digit, raise, fill}
 use Rattle.words.specs.Sums.{tally, weigh, unit}
 use Rattle.words.specs.Tests.{choose, either}
-use Rattle.words.proofs.Tests.{either-left, either-none, either-right}
+use Rattle.words.proofs.Tests.{either-none, either-right}
 
 -- a digit is below the base
 pub digit-lt : (b w q : ℕ) → 0 < b → digit b w q < b

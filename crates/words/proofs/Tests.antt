@@ -281,3 +281,31 @@ between-true low high k h =
 pub between-make : (low high k : ℕ) → (low ≤ k) × (k ≤ high) → between low high k ≡ true
 unfolding between
 between-make low high k h = both-make _ _ (le-leb low k (h .0)) (le-leb k high (h .1))
+
+-- tests that hold of each other
+pub both-ways : (a b : Bool) → (a ≡ true → b ≡ true) → (b ≡ true → a ≡ true) → a ≡ b
+both-ways true b h k = sym (h refl)
+both-ways false true h k = k refl
+both-ways false false h k = refl
+
+-- one more number that a test may hold of
+pub any-with : (picked p : ℕ → Bool) (n k : ℕ) → k < n
+    → any n (λ m. both (either (picked m) (eqb m k)) (p m)) ≡ either (any n (λ m. both (picked m) (p m))) (p k)
+any-with picked p n k below =
+    let more : ℕ → Bool = λ m. both (either (picked m) (eqb m k)) (p m) in
+    let fewer : ℕ → Bool = λ m. both (picked m) (p m) in
+    both-ways (any n more) (either (any n fewer) (p k))
+    (λ h.
+    let f : (m : ℕ) × (m < n) × (more m ≡ true) = any-at more n h in
+    let holds : p (f .0) ≡ true = both-right (either (picked (f .0)) (eqb (f .0) k)) (p (f .0)) (f .2) in
+    ⊎-elim (λ old. either-left (any n fewer) (p k) (any-make fewer n (f .0) (f .1) (both-make (picked (f .0)) (p (f .0)) old holds)))
+    (λ new. either-right (any n fewer) (p k) (subst (λ (m : ℕ). p m ≡ true) (eqb-true (f .0) k new) holds))
+    (either-cases (picked (f .0)) (eqb (f .0) k) (both-left (either (picked (f .0)) (eqb (f .0) k)) (p (f .0)) (f .2))))
+    (λ h.
+    ⊎-elim
+    (λ old.
+    let f : (m : ℕ) × (m < n) × (fewer m ≡ true) = any-at fewer n old in
+    any-make more n (f .0) (f .1)
+    (both-make (either (picked (f .0)) (eqb (f .0) k)) (p (f .0)) (either-left (picked (f .0)) (eqb (f .0) k) (both-left (picked (f .0)) (p (f .0)) (f .2))) (both-right (picked (f .0)) (p (f .0)) (f .2))))
+    (λ new. any-make more n k below (both-make (either (picked k) (eqb k k)) (p k) (either-right (picked k) (eqb k k) (eq-eqb k k refl)) new))
+    (either-cases (any n fewer) (p k) h))

@@ -9,10 +9,10 @@ use native.Mathlib.Omega.{arith}
 use borrow.Author.Count.{below-more}
 use borrow.Author.Tests.{not-true, not-false}
 use Rattle.words.proofs.Tests.{any-fails, any-make}
-use Rattle.tables.specs.Blocks.{parentIn}
+use Rattle.tables.specs.Blocks.{parentIn, epochIn}
 use Rattle.tables.specs.Searches.{soundFrom, longerBy}
 use Rattle.tables.proofs.Chains.{parent-in-lt}
-use Rattle.tables.proofs.Searching.{left, left-start, left-next, left-short, left-broken, left-met, unmet-above, longer-past}
+use Rattle.tables.proofs.Searching.{sound-tested, left, left-start, left-next, left-short, left-broken, left-met, unmet-above, longer-past}
 use Rattle.tables.proofs.chain.has_longer.Statement.{statement}
 use Rattle.tables.proofs.chain.has_longer.Tie as tie
 
@@ -21,14 +21,15 @@ abbrev Longer : (sets parents epochs : List ℕ) → (last n beat : ℕ) → ℕ
 Longer sets parents epochs last n beat = longerBy (parentIn parents last) (soundFrom sets parents epochs last n) beat
 
 abbrev Inv-climb : tie.InvT-climb
-Inv-climb sets parents epochs last n b beat found₀ x climbed₀ at₀ found climbed at =
+Inv-climb sets parents epochs last n b beat found₀ x climbed₀ at₀ epoch₀ found climbed at epoch =
     (climbed + at ≤ x)
+    × (epoch ≡ epochIn epochs last at)
     × (found ≡ false)
     × ((k : ℕ) → k < x → Longer sets parents epochs last n beat k ≡ false)
     × (Longer sets parents epochs last n beat x ≡ left (parentIn parents last) (soundFrom sets parents epochs last n) beat climbed at)
 
 abbrev μ-climb : tie.MeasureT-climb
-μ-climb sets parents epochs last n b beat found₀ x climbed₀ at₀ found climbed at = at
+μ-climb sets parents epochs last n b beat found₀ x climbed₀ at₀ epoch₀ found climbed at epoch = at
 
 abbrev Inv-walk : tie.InvT-walk
 Inv-walk sets parents epochs last n b beat found₀ x₀ found x =
@@ -43,34 +44,63 @@ walk-holds c = (search needs, refl, λ k l. longer-past _ (parent-in-lt _ _) _ _
 add-x : tie.Need-add-x Inv-climb μ-climb Inv-walk μ-walk
 add-x c = search needs
 
+epoch-at-requires : tie.Need-epoch-at-requires Inv-climb μ-climb Inv-walk μ-walk
+epoch-at-requires c κs = search needs
+
 climb-holds : tie.Need-climb-holds Inv-climb μ-climb Inv-walk μ-walk
-climb-holds c = (search needs, c .before .walk .inv .1, c .before .walk .inv .2, left-start _ (parent-in-lt _ _) _ _ _)
+climb-holds c =
+    let turn = c .before .before .walk in
+    (search needs, c .epoch-at .ensures, turn .inv .1, turn .inv .2, left-start _ (parent-in-lt _ _) _ _ _)
 
 add-climb : tie.Need-add-climb Inv-climb μ-climb Inv-walk μ-walk
 add-climb c = search needs
 
 walk-less : tie.Need-walk-less Inv-climb μ-climb Inv-walk μ-walk
-walk-less c = search needs
+walk-less c = omega arith
 
 walk-again : tie.Need-walk-again Inv-climb μ-climb Inv-walk μ-walk
 walk-again c =
     let turn = c .before .climb in (
-      search needs,
-      turn .inv .1,
-      below-more _ _ (turn .inv .2) (turn .inv .3 ∙ left-short _ (parent-in-lt _ _) _ _ _ _ (c .climb-test .left)),
+      omega arith,
+      turn .inv .2,
+      below-more _ _ (turn .inv .3) (turn .inv .4 ∙ left-short _ (parent-in-lt _ _) _ _ _ _ (c .climb-test .left)),
     )
+
+is-met-requires : tie.Need-is-met-requires Inv-climb μ-climb Inv-walk μ-walk
+is-met-requires c κs = search needs
 
 -- a climb that goes on is above genesis
 above-genesis : (c : tie.Else1 Inv-climb μ-climb Inv-walk μ-walk) → 0 < c .before .before .before .climb .at
 above-genesis c =
     let at-climb = c .before .before .before in
-    unmet-above (at-climb .before .before .before .args .b) (at-climb .climb .climbed) (at-climb .climb .at) (sym (c .before .is-met .ensures) ∙ c .if1 .left)
+    unmet-above (at-climb .before .before .before .before .args .b) (at-climb .climb .climbed) (at-climb .climb .at) (sym (c .before .is-met .ensures) ∙ c .if1 .left)
 
-is-met-requires : tie.Need-is-met-requires Inv-climb μ-climb Inv-walk μ-walk
-is-met-requires c κs = search needs
+parent-at-requires : tie.Need-parent-at-requires Inv-climb μ-climb Inv-walk μ-walk
+parent-at-requires c κs = search needs
+
+epoch-at-requires-2 : tie.Need-epoch-at-requires-2 Inv-climb μ-climb Inv-walk μ-walk
+epoch-at-requires-2 c κs = search needs
+
+cast-is-sound : tie.Need-cast-is-sound Inv-climb μ-climb Inv-walk μ-walk
+cast-is-sound c = search needs
+
+mul-is-sound : tie.Need-mul-is-sound Inv-climb μ-climb Inv-walk μ-walk
+mul-is-sound c = search needs
+
+element-copy-out-is-sound : tie.Need-element-copy-out-is-sound Inv-climb μ-climb Inv-walk μ-walk
+element-copy-out-is-sound c = search needs
 
 is-sound-requires : tie.Need-is-sound-requires Inv-climb μ-climb Inv-walk μ-walk
 is-sound-requires c κs = search needs
+
+-- the block reached was tested
+tested : (c : tie.After-is-sound Inv-climb μ-climb Inv-walk μ-walk) → c .is-sound .result
+    ≡ soundFrom (c .before .before .before .before .before .before .before .before .before .before .before .args .sets .now) (c .before .before .before .before .before .before .before .before .before .before .before .args .parents .now) (c .before .before .before .before .before .before .before .before .before .before .before .args .epochs .now) (c .before .before .before .before .before .before .before .before .before .before .before .args .last) (c .before .before .before .before .before .before .before .before .before .before .before .args .n) (c .before .before .before .before .before .before .before .climb .at)
+tested c =
+    let at-below = c .before .before in
+    let at-parent = at-below .before in
+    let turn = at-parent .before .before .before .before .climb in
+    sound-tested _ _ _ _ _ (turn .at) _ (at-below .epoch-at2 .result) (turn .epoch) _ (c .is-sound .ensures) (at-parent .parent-at .ensures) (at-below .epoch-at2 .ensures) (turn .inv .1)
 
 walk-less-2 : tie.Need-walk-less-2 Inv-climb μ-climb Inv-walk μ-walk
 walk-less-2 c = omega arith
@@ -78,40 +108,40 @@ walk-less-2 c = omega arith
 walk-again-2 : tie.Need-walk-again-2 Inv-climb μ-climb Inv-walk μ-walk
 walk-again-2 c =
     let at-sound = c .before in
-    let at-if1 = at-sound .before in
-    let at-met = at-if1 .before in
-    let turn = at-met .before .before .climb in
-    let above : 0 < turn .at = above-genesis at-if1 in (
+    let at-if1 = at-sound .before .before .before .before in
+    let turn = at-if1 .before .before .before .climb in (
       omega arith,
-      turn .inv .1,
-      below-more _ _ (turn .inv .2) (turn .inv .3 ∙ left-broken _ (parent-in-lt _ _) _ _ _ _ above (sym (at-sound .is-sound .ensures) ∙ not-true _ (c .if2 .taken))),
+      turn .inv .2,
+      below-more _ _ (turn .inv .3) (turn .inv .4 ∙ left-broken _ (parent-in-lt _ _) _ _ _ _ (above-genesis at-if1) (sym (tested at-sound) ∙ not-true _ (c .if2 .taken))),
     )
 
 add-climbed : tie.Need-add-climbed Inv-climb μ-climb Inv-walk μ-walk
-add-climbed c = omega (arith, above-genesis (c .before .before))
-
-parent-at-requires : tie.Need-parent-at-requires Inv-climb μ-climb Inv-walk μ-walk
-parent-at-requires c κs = search needs
+add-climbed c = omega (arith, above-genesis (c .before .before .before .before .before))
 
 climb-less : tie.Need-climb-less Inv-climb μ-climb Inv-walk μ-walk
-climb-less c = rw (c .parent-at .ensures) (parent-in-lt _ _ _ (above-genesis (c .before .before .before)))
+climb-less c =
+    let at-parent = c .before .before .before .before in
+    rw (at-parent .parent-at .ensures) (parent-in-lt _ _ _ (above-genesis (at-parent .before)))
 
 climb-again : tie.Need-climb-again Inv-climb μ-climb Inv-walk μ-walk
 climb-again c =
-    let at-sound = c .before .before in
-    let at-if1 = at-sound .before in
+    let at-sound = c .before in
+    let at-below = at-sound .before .before in
+    let at-parent = at-below .before in
+    let at-if1 = at-parent .before in
     let at-climb = at-if1 .before .before .before in
-    let a = at-climb .before .before .before .args in
+    let a = at-climb .before .before .before .before .args in
     let parents : List ℕ = a .parents .now in
     let last : ℕ = a .last in
     let turn = at-climb .climb in
     let at : ℕ = turn .at in
     let above : 0 < at = above-genesis at-if1 in
-    rw (c .parent-at .ensures) (
-      omega (arith, parent-in-lt parents last at above),
-      turn .inv .1,
+    let up : at-parent .parent-at .result ≡ parentIn parents last at = at-parent .parent-at .ensures in (
+      omega (arith, up, parent-in-lt parents last at above),
+      at-below .epoch-at2 .ensures,
       turn .inv .2,
-      turn .inv .3 ∙ left-next _ (parent-in-lt parents last) _ _ _ at above (sym (at-sound .is-sound .ensures) ∙ not-false _ (c .before .if2 .left)),
+      turn .inv .3,
+      rw up (turn .inv .4 ∙ left-next _ (parent-in-lt parents last) _ _ _ at above (sym (tested at-sound) ∙ not-false _ (c .if2 .left))),
     )
 
 returns : tie.Need-returns Inv-climb μ-climb Inv-walk μ-walk
@@ -121,11 +151,11 @@ returns-2 : tie.Need-returns-2 Inv-climb μ-climb Inv-walk μ-walk
 returns-2 c =
     let at-met = c .before in
     let at-climb = at-met .before .before in
-    let entry = at-climb .before .before .before in
+    let entry = at-climb .before .before .before .before in
     let turn = at-climb .climb in
     sym
-    (any-make _ _ (at-climb .before .before .walk .x + 1) (omega arith)
-    (turn .inv .3
+    (any-make _ _ (at-climb .before .before .before .walk .x + 1) (omega arith)
+    (turn .inv .4
     ∙ left-met _ (parent-in-lt _ _) _ _ (entry .args .b) (turn .climbed) (turn .at) (entry .pre .0) (entry .pre .1) (at-met .before .climb-test .taken)
     (sym (at-met .is-met .ensures) ∙ c .if1 .taken)))
 
@@ -139,16 +169,21 @@ has-longer-spec =
     μ-walk
     walk-holds
     add-x
+    epoch-at-requires
     climb-holds
     add-climb
     walk-less
     walk-again
     is-met-requires
+    parent-at-requires
+    epoch-at-requires-2
+    cast-is-sound
+    mul-is-sound
+    element-copy-out-is-sound
     is-sound-requires
     walk-less-2
     walk-again-2
     add-climbed
-    parent-at-requires
     climb-less
     climb-again
     returns

@@ -1,91 +1,102 @@
--- `tables::notary::gather`: at each turn the sets hold the signers of the messages below the next.
+-- `tables::notary::gather`: at each turn the sets hold the signers of the messages below `low` and from `high` up.
 use borrow.Author.Needs.{needs}
 use Prim.Native.Nat.{_-_, _≤_}
-use mathlib.Core.Path.{_≡_, refl, sym, _∙_}
+use mathlib.Core.Path.{_≡_, refl}
 use native.Mathlib.Omega.{arith}
-use borrow.Author.Tests.{not-true, not-false}
-use lib.ListN.{length, length-set}
-use Rattle.tables.specs.Searches.{setOf}
-use Rattle.tables.proofs.Searching.{Gathered, gather-none, gather-past, gather-next}
+use lib.Dec.{eqb}
+use lib.ListN.{length}
+use Rattle.words.specs.Tests.{either}
+use Rattle.tables.proofs.Searching.{outside, Gathered, gather-none, gather-noted, gather-ends, gather-all}
 use Rattle.tables.proofs.notary.gather.Statement.{statement}
 use Rattle.tables.proofs.notary.gather.Tie as tie
 
 abbrev Inv-loop : tie.InvT-loop
-Inv-loop places signers subjects count q sets₀ next₀ sets next = (next ≤ count) × (length sets ≡ 256) × Gathered places signers subjects q next sets
+Inv-loop places signers subjects count q sets₀ low₀ high₀ sets low high =
+    (low ≤ count) × (high ≤ count) × (length sets ≡ 256) × Gathered places signers subjects count q (outside low high) sets
 
 abbrev μ-loop : tie.MeasureT-loop
-μ-loop places signers subjects count q sets₀ next₀ sets next = count - next
+μ-loop places signers subjects count q sets₀ low₀ high₀ sets low high = high - low
 
 loop-holds : tie.Need-loop-holds Inv-loop μ-loop
-loop-holds c = (search needs, refl, gather-none _ _ _ _)
+loop-holds c =
+    let a = c .args in
+    (search needs, search needs, refl, gather-none (a .places .now) (a .signers .now) (a .subjects .now) (a .count) (a .q))
 
-add-next : tie.Need-add-next Inv-loop μ-loop
-add-next c = search needs
+sub-high : tie.Need-sub-high Inv-loop μ-loop
+sub-high c = search needs
 
-mul-is-last-stage : tie.Need-mul-is-last-stage Inv-loop μ-loop
-mul-is-last-stage c = search needs
+mul-note : tie.Need-mul-note Inv-loop μ-loop
+mul-note c = search needs
 
-element-copy-out-is-last-stage : tie.Need-element-copy-out-is-last-stage Inv-loop μ-loop
-element-copy-out-is-last-stage c = search needs
+element-copy-out-note : tie.Need-element-copy-out-note Inv-loop μ-loop
+element-copy-out-note c = omega arith
 
-is-last-stage-requires : tie.Need-is-last-stage-requires Inv-loop μ-loop
-is-last-stage-requires c κs = search needs
+element-copy-out-note-2 : tie.Need-element-copy-out-note-2 Inv-loop μ-loop
+element-copy-out-note-2 c = omega arith
+
+element-copy-out-note-3 : tie.Need-element-copy-out-note-3 Inv-loop μ-loop
+element-copy-out-note-3 c = omega arith
+
+note-requires : tie.Need-note-requires Inv-loop μ-loop
+note-requires c κs = search needs
+
+mul-note-2 : tie.Need-mul-note-2 Inv-loop μ-loop
+mul-note-2 c = search needs
+
+element-copy-out-note-4 : tie.Need-element-copy-out-note-4 Inv-loop μ-loop
+element-copy-out-note-4 c = omega arith
+
+element-copy-out-note-5 : tie.Need-element-copy-out-note-5 Inv-loop μ-loop
+element-copy-out-note-5 c = omega arith
+
+element-copy-out-note-6 : tie.Need-element-copy-out-note-6 Inv-loop μ-loop
+element-copy-out-note-6 c = omega arith
+
+note-requires-2 : tie.Need-note-requires-2 Inv-loop μ-loop
+note-requires-2 c κs = search needs
+
+add-low : tie.Need-add-low Inv-loop μ-loop
+add-low c = omega arith
 
 loop-less : tie.Need-loop-less Inv-loop μ-loop
-loop-less c = search needs
+loop-less c = omega arith
+
+-- after the first of a turn's two messages
+abbrev First : (c : tie.After-note Inv-loop μ-loop) → Type 0
+First c =
+    let at-loop = c .before .before .before .before .before .before in
+    let a = at-loop .before .args in
+    let turn = at-loop .loop in
+    Gathered (a .places .now) (a .signers .now) (a .subjects .now) (a .count) (a .q) (λ k. either (outside (turn .low) (turn .high) k) (eqb k (turn .low))) (c .note .last .0)
+    × (length (c .note .last .0) ≡ 256)
+
+first : (c : tie.After-note Inv-loop μ-loop) → First c
+first c =
+    let at-loop = c .before .before .before .before .before .before in
+    let a = at-loop .before .args in
+    let turn = at-loop .loop in
+    gather-noted (a .places .now) (a .signers .now) (a .subjects .now) (a .count) (a .q) (outside (turn .low) (turn .high)) (turn .low) (turn .sets) (c .note .last .0)
+    (omega arith) (turn .inv .2) (turn .inv .3) (c .note .ensures)
 
 loop-again : tie.Need-loop-again Inv-loop μ-loop
 loop-again c =
-    let turn = c .before .before .before .before .loop in (
-      search needs,
-      turn .inv .1,
-      gather-past _ _ _ _ _ (turn .sets) (sym (c .before .is-last-stage .ensures) ∙ not-true _ (c .if1 .taken)) (turn .inv .2),
-    )
-
-element-copy-out-index : tie.Need-element-copy-out-index Inv-loop μ-loop
-element-copy-out-index c = search needs
-
-index-requires : tie.Need-index-requires Inv-loop μ-loop
-index-requires c κs = search needs
-
-mul-with-member : tie.Need-mul-with-member Inv-loop μ-loop
-mul-with-member c = search needs
-
-array-read-with-member : tie.Need-array-read-with-member Inv-loop μ-loop
-array-read-with-member c = omega arith
-
-element-copy-out-with-member : tie.Need-element-copy-out-with-member Inv-loop μ-loop
-element-copy-out-with-member c = omega arith
-
-with-member-requires : tie.Need-with-member-requires Inv-loop μ-loop
-with-member-requires c κs = search needs
-
-mul-sets : tie.Need-mul-sets Inv-loop μ-loop
-mul-sets c = search needs
-
-array-write-sets : tie.Need-array-write-sets Inv-loop μ-loop
-array-write-sets c = omega arith
-
-loop-less-2 : tie.Need-loop-less-2 Inv-loop μ-loop
-loop-less-2 c = omega arith
-
-loop-again-2 : tie.Need-loop-again-2 Inv-loop μ-loop
-unfolding setOf
-loop-again-2 c =
-    let at-index = c .before .before in
-    let at-if1 = at-index .before .before in
-    let at-stage = at-if1 .before in
-    let turn = at-stage .before .before .before .loop in (
+    let at-note = c .before .before .before .before .before in
+    let at-test = at-note .before .before .before .before .before in
+    let a = at-test .before .before .args in
+    let turn = at-test .before .loop in
+    let second = gather-noted (a .places .now) (a .signers .now) (a .subjects .now) (a .count) (a .q) (λ k. either (outside (turn .low) (turn .high) k) (eqb k (turn .low)))
+    (turn .high - 1) (at-note .note .last .0) (c .note2 .last .0) (omega arith) (first at-note .1) (first at-note .0) (c .note2 .ensures) in (
       omega arith,
-      simp length-set (turn .inv .1),
-      gather-next _ _ _ _ _ (turn .sets) _ _ (turn .inv .1) (at-index .index .ensures .0) (at-index .index .ensures .1)
-          (sym (at-stage .is-last-stage .ensures) ∙ not-false _ (at-if1 .if1 .left)) (turn .inv .2) (c .with-member .ensures),
+      omega arith,
+      second .1,
+      gather-ends (a .places .now) (a .signers .now) (a .subjects .now) (a .count) (a .q) (turn .low) (turn .high) (c .note2 .last .0) (at-test .loop-test .taken) (second .0),
     )
 
 returns : tie.Need-returns Inv-loop μ-loop
 returns c =
-    let end : c .before .loop .next ≡ c .before .before .args .count = omega arith in
-    rw end at (c .before .loop .inv .2)
+    let a = c .before .before .args in
+    let turn = c .before .loop in
+    gather-all (a .places .now) (a .signers .now) (a .subjects .now) (a .count) (a .q) (turn .low) (turn .high) (turn .sets) (c .loop-test .left) (turn .inv .3)
 
 pub gather-spec : {M : Type 1} → statement M
 gather-spec =
@@ -94,20 +105,18 @@ gather-spec =
     Inv-loop
     μ-loop
     loop-holds
-    add-next
-    mul-is-last-stage
-    element-copy-out-is-last-stage
-    is-last-stage-requires
+    sub-high
+    mul-note
+    element-copy-out-note
+    element-copy-out-note-2
+    element-copy-out-note-3
+    note-requires
+    mul-note-2
+    element-copy-out-note-4
+    element-copy-out-note-5
+    element-copy-out-note-6
+    note-requires-2
+    add-low
     loop-less
     loop-again
-    element-copy-out-index
-    index-requires
-    mul-with-member
-    array-read-with-member
-    element-copy-out-with-member
-    with-member-requires
-    mul-sets
-    array-write-sets
-    loop-less-2
-    loop-again-2
     returns)

@@ -1,0 +1,46 @@
+-- `tables::notary::note`: a message that is in the view adds its signer to the set of its block; any other leaves the sets as they are.
+use borrow.Author.Needs.{needs}
+use mathlib.Core.Path.{sym, _∙_}
+use Rattle.words.specs.Tests.{choose}
+use Rattle.tables.specs.Searches.{setOf}
+use Rattle.tables.proofs.notary.note.Statement.{statement}
+use Rattle.tables.proofs.notary.note.Tie as tie
+
+is-last-stage-requires : tie.Need-is-last-stage-requires
+is-last-stage-requires c κs = search needs
+
+mul-with-member : tie.Need-mul-with-member
+mul-with-member c = search needs
+
+element-copy-out-with-member : tie.Need-element-copy-out-with-member
+element-copy-out-with-member c = search needs
+
+with-member-requires : tie.Need-with-member-requires
+with-member-requires c κs = search needs
+
+mul-sets : tie.Need-mul-sets
+mul-sets c = search needs
+
+element-write-sets : tie.Need-element-write-sets
+element-write-sets c = search needs
+
+returns : tie.Need-returns
+unfolding choose setOf
+returns c = (rw (sym (c .before .before .before .is-last-stage .ensures) ∙ c .before .before .if1 .taken, c .with-member .ensures), search needs)
+
+returns-2 : tie.Need-returns-2
+unfolding choose
+returns-2 c = (rw (sym (c .before .is-last-stage .ensures) ∙ c .if1 .left), search needs)
+
+pub note-spec : {M : Type 1} → statement M
+note-spec =
+    tie.close
+    (tie.spec
+    is-last-stage-requires
+    mul-with-member
+    element-copy-out-with-member
+    with-member-requires
+    mul-sets
+    element-write-sets
+    returns
+    returns-2)
