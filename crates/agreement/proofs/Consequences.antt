@@ -12,10 +12,15 @@ use Rattle.register.specs.declared.sorts.Office.{Office}
 use Rattle.register.specs.declared.step.Step.{Step}
 use Rattle.register.specs.declared.step.Step.the-variants.{Advance}
 use Rattle.register.specs.declared.table.Register.{Register}
+use Rattle.register.specs.declared.table.Stepped.{Stepped}
 use Rattle.register.specs.Tables.{block, finalOf}
 use Rattle.register.specs.Chains.{valid, chainNotarised}
+use Rattle.register.specs.Steps.{stepRule}
 use Rattle.register.proofs.Chains.{chain-genesis, notarised-parent}
-use Rattle.agreement.specs.Moments.{Run, opened, after, afterFirst, moment}
+use Rattle.register.proofs.Ranges.{Ranges, ranges-fit}
+use Rattle.register.proofs.FitSteps.{ranges-step}
+use Rattle.register.proofs.FitOpening.{ranges-opening, quick-same}
+use Rattle.agreement.specs.Moments.{Run, opened, after, afterFirst, moment, Gave}
 use Rattle.agreement.specs.Claim.{finalChain, Trusted, Notarised, Begins, Agreement, CallsAreMoments, NeverPart}
 use Rattle.agreement.proofs.Safety.{Finalised, genesis, middle}
 use Rattle.agreement.proofs.Agreement.{safe-moment, agreement}
@@ -58,10 +63,26 @@ one-more [] i r l = absurd (omega arith)
 one-more (x ∷ xs) zero r l = refl
 one-more (x ∷ xs) (suc i) r l = one-more xs i (after r x) (omega arith)
 
+-- steps keep a register's numbers in their ranges
+first-ranges : (r : Register) (steps : List Step) (i : ℕ) → Ranges r → Ranges (afterFirst r steps i)
+unfolding afterFirst after
+first-ranges r steps zero z = z
+first-ranges r [] (suc i) z = z
+first-ranges r (step ∷ steps) (suc i) z = first-ranges (stepRule r step .register) steps i (ranges-step z step)
+
+-- so what a call gives back for a moment is the register after the step, whether the call tests the whole register or not
+gave-after : (run : Run) (i : ℕ) (step : Step) (next : Register) → Gave (moment run i) step next → next ≡ after (moment run i) step
+unfolding Gave after moment opened
+gave-after run i step next (inl tested) = tested
+gave-after run i step next (inr quick) =
+    let z : Ranges (moment run i) = first-ranges (opened run) (run .steps) i (ranges-opening (run .n) (run .trust) (run .schedule) (run .accepted)) in
+    quick ∙ sym (ap (λ (s : Stepped). s .register) (quick-same (moment run i) step (ranges-fit z)))
+
 pub calls-are-moments : CallsAreMoments
-unfolding CallsAreMoments moment after afterFirst
+unfolding CallsAreMoments moment afterFirst
 calls-are-moments run given handed zero l = handed .first
 calls-are-moments run given handed (suc i) l =
-    handed .next i (omega arith)
-    ∙ ap (λ (r : Register). after r (getD (run .steps) i Advance)) (calls-are-moments run given handed i (omega arith))
+    let step : Step = getD (run .steps) i Advance in
+    let so-far : given i ≡ moment run i = calls-are-moments run given handed i (omega arith) in
+    gave-after run i step (given (suc i)) (subst (λ (r : Register). Gave r step (given (suc i))) so-far (handed .next i (omega arith)))
     ∙ sym (one-more (run .steps) i (opened run) (omega arith))

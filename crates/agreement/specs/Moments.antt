@@ -2,12 +2,13 @@
 use Prim.Native.Nat.{ℕ, zero, suc, _<_}
 use mathlib.Core.Path.{_≡_}
 use mathlib.Core.List.{List, [], _∷_}
+use mathlib.Core.Logic.{_⊎_}
 use lib.ListN.{length, getD}
 use Rattle.register.specs.declared.step.Step.{Step}
 use Rattle.register.specs.declared.step.Step.the-variants.{Advance}
 use Rattle.register.specs.declared.table.Register.{Register}
 use Rattle.register.specs.Opening.{opening}
-use Rattle.register.specs.Steps.{stepRule}
+use Rattle.register.specs.Steps.{stepRule, quickRule}
 
 -- an opening that is not refused, and a list of steps
 pub record Run : Type 0 where
@@ -35,8 +36,12 @@ afterFirst r (step ∷ steps) (suc i) = afterFirst (after r step) steps i
 unfoldable pub moment : Run → ℕ → Register
 moment run i = afterFirst (opened run) (run .steps) i
 
--- registers as calls hand them on: the first is what the opening gave, and each next one is what the step call gave back for the
--- register before it
+-- a register that a call gave back for another and a step: `step` or a step's own method, which test the whole register, or `quick_step` or
+-- `run`, which do not
+unfoldable pub Gave : Register → Step → Register → Type 0
+Gave r step next = (next ≡ stepRule r step .register) ⊎ (next ≡ quickRule r step .register)
+
+-- registers as calls hand them on: the first is what the opening gave, and each next one is what a call gave back for the register before it
 pub record HandedOn (run : Run) (given : ℕ → Register) : Type 0 where
   pub first : given 0 ≡ opened run
-  pub next : (i : ℕ) → i < length (run .steps) → given (suc i) ≡ stepRule (given i) (getD (run .steps) i Advance) .register
+  pub next : (i : ℕ) → i < length (run .steps) → Gave (given i) (getD (run .steps) i Advance) (given (suc i))

@@ -41,7 +41,7 @@ module _ (n trust : ℕ) (schedule : List ℕ) where
       }
 
   -- and the register of an opening that is not refused is the fresh one
-  ranges-opening : opening n trust schedule .refusal ≡ 0 → Ranges (opening n trust schedule .register)
+  pub ranges-opening : opening n trust schedule .refusal ≡ 0 → Ranges (opening n trust schedule .register)
   unfolding opening choose
   ranges-opening h =
       subst⁻¹ (λ (t : Bool). Ranges (choose t (fresh n trust schedule) closed)) (eq-eqb _ 0 h) (ranges-fresh h)

@@ -57,8 +57,8 @@ unfoldable pub notLongest : Register → ℕ → ℕ → Bool
 notLongest r q parent = not (longest r q parent)
 
 -- 20: the block's epoch is not above its parent's
-unfoldable pub epochs : (epoch : ℕ) → (parent : ℕ) → Bool
-epochs epoch parent = leb epoch parent
+unfoldable pub epochs : (epoch : ℕ) → (parentEpoch : ℕ) → Bool
+epochs epoch parentEpoch = leb epoch parentEpoch
 
 -- block b, its parent c and c's parent d are not genesis, their epochs are k + 2, k + 1 and k, and b's chain is notarised in
 -- the office's view

@@ -16,7 +16,8 @@ impl Register {
         tables::trusted_at(self.n, self.trust, office.0)
     }
 
-    // The office's final block; genesis for a number from 32 up, which is no office's.
+    // The final block that the register holds for that number: of a trusted office its final block, of any other the entry as it stands; genesis
+    // for a number from 32 up, which has none.
     pub fn final_block(self, office: Office) -> Block
         ensures { λ r. ⌜ r ≡ block (choose (ltb (office .0) 32) (finalOf self (office .0)) 0) ⌝ }
     {
@@ -27,7 +28,7 @@ impl Register {
         Block(self.finals[q])
     }
 
-    // The length of a block's chain, genesis not counted.
+    // The length of a block's chain, genesis not counted. A number above the last block's counts as a block on genesis.
     pub fn chain_length(self, b: Block) -> u8
         ensures { λ r. ⌜ r ≡ chainLength self (b .0) ⌝ }
     {

@@ -30,8 +30,8 @@ fn in_batch(count: usize) -> usize
 }
 
 impl Register {
-    // Runs the first steps of a batch without the test of the register's tables. The register is changed in place, so that a step
-    // costs no copy of it.
+    // Runs the first steps of a batch without the test of the register's tables, so that tables out of range get no 5. The register is
+    // changed in place, so that a step costs no copy of it.
     pub fn run(mut self, steps: Batch, count: usize) -> Ran
         ensures { λ r. ⌜ r ≡ ranFirst self steps (min count 256) ⌝ }
     {
@@ -92,7 +92,7 @@ impl Register {
 }
 
 impl Register {
-    // Runs one step without the test of the register's tables.
+    // Runs one step without the test of the register's tables, so that tables out of range get no 5.
     pub fn quick_step(self, step: Step) -> Stepped
         ensures { λ r. ⌜ r ≡ quickRule self step ⌝ }
     {

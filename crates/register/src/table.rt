@@ -18,7 +18,7 @@ pub struct Sent {
 }
 
 // The register that the offices share. Any values make a register that each call takes. The tables are columns of plain numbers, so that
-// a call can lend a whole column without copying it; each call gives and takes the four sorts.
+// a call can lend a whole column without copying it; each call takes the four sorts, and gives a step's value, which is of several, as a number.
 pub struct Register {
     // how many offices there are
     pub n: u8,
@@ -32,7 +32,7 @@ pub struct Register {
     pub epoch: Epoch,
     // the last block made, 0 where there is genesis alone
     pub last: Block,
-    // each block's parent, epoch and payload, at the block's number; entry 0 is never read
+    // each block's parent, epoch and payload, at the block's number; entry 0 counts for nothing
     pub parents: [u8; 256],
     pub epochs: [u16; 256],
     pub payloads: [u16; 256],
