@@ -1,7 +1,7 @@
 /* Skovarnek: checks a packed log of Streamlet steps and writes a report of it.
  *
- * The rules, the packed log and the report are those of the papers; the call is proved to give just that report for every log and every
- * buffer. Link it as libskovarnek.a.
+ * The report is proved to be the one that the rules lay down, for every log and every buffer; docs/ARCHITECTURE.md says where the rules
+ * stand. Link it as libskovarnek.a.
  */
 #ifndef SKOVARNEK_H
 #define SKOVARNEK_H
@@ -23,7 +23,7 @@ extern "C" {
  * untouched, and no zero byte is put behind the report. If the report does not fit, returns 0, and the whole buffer is zero; no report is
  * empty, so 0 says just that.
  *
- * A length of 0 may come with any pointer. The log and the buffer must not overlap. The call needs about 100 KB of stack, keeps nothing
+ * A length of 0 may come with any pointer. The log and the buffer must not overlap. The call needs less than 100 KB of stack, keeps nothing
  * between calls and allocates nothing, so that any number of threads may call it at once, each with a buffer of its own.
  */
 size_t skovarnek_check(const uint8_t *log, size_t log_len, uint8_t *report, size_t report_len);
