@@ -2,7 +2,7 @@
 
 use super::{step_text, text_so_far};
 use crate::packed::read_log;
-use crate::register::{Answer, Office, Register, Step};
+use crate::register::{Answer, Message, Office, Register, Step};
 use crate::report::put_step;
 use std::fmt::Write;
 
@@ -23,7 +23,7 @@ pub fn explain(log: &[u8]) -> String {
             &mut text,
             line.trim_end(),
             &step_text(step),
-            &note(step, answer),
+            &note(step, answer, &register),
         );
     }
     for office in register.trusted_offices() {
@@ -48,16 +48,20 @@ fn put_office(text: &mut String, register: &Register, office: Office) {
     put_row(text, &line, "", &note);
 }
 
-/// What became of a step.
-fn note(step: &Step, answer: Answer) -> String {
+/// What became of a step; the register is the one after it.
+fn note(step: &Step, answer: Answer, register: &Register) -> String {
     let value = match answer {
         Ok(value) => value,
         Err(refusal) => return format!("{}: {}", refusal.word(), refusal.meaning()),
     };
+    let about = || register.message(Message(value)).block.0;
     match step {
-        Step::Propose { .. } => format!("accepted: proposal sent as message {value}"),
-        Step::Vote { .. } => format!("accepted: vote sent as message {value}"),
-        Step::Register { .. } => format!("accepted: message {value} is in the view"),
+        Step::Propose { .. } => format!("accepted: message {value} proposes block {}", about()),
+        Step::Vote { .. } => format!("accepted: message {value} votes for block {}", about()),
+        Step::Register { .. } => format!(
+            "accepted: message {value}, a vote for block {}, is in the view",
+            about()
+        ),
         Step::Finalise { .. } => format!("accepted: block {value} is final"),
         Step::Deliver { .. } => format!("accepted: message {value} is in the inbox"),
         Step::BadSend { .. } => format!("accepted: sent as message {value}"),
