@@ -7,7 +7,7 @@ use mathlib.Core.List.{List}
 use native.Mathlib.Omega.{arith}
 use native.Mathlib.Decide.{ℕ-discrete, decLt}
 use native.Mathlib.Nat.{zero-add}
-use borrow.Author.Tests.{eq-eqb, ne-eqb, eqb-true, eqb-false, lt-ltb, le-ltb, ltb-true, le-leb, lt-leb}
+use borrow.Author.Tests.{eq-eqb, ne-eqb, eqb-true, eqb-false, lt-ltb, le-ltb, ltb-true, ltb-false, le-leb, lt-leb}
 use lib.Dec.{eqb, ltb, leb}
 use lib.ListN.{length, length-set, getD, set, replicate, getD-replicate}
 use lib.Seq.{getD-set-same, getD-set-other}
@@ -15,7 +15,7 @@ use Rattle.quorum.specs.Enough.{enough}
 use Rattle.words.specs.Digits.{digit, fill}
 use Rattle.words.specs.Sums.{tally}
 use Rattle.words.specs.Tests.{choose, both, either, any, every}
-use Rattle.words.proofs.Tests.{any-fails, any-same, any-with, both-left, both-right, both-all, both-none, decided, either-cases, either-false-left, either-left, either-none, either-right}
+use Rattle.words.proofs.Tests.{any-fails, any-same, any-with, both-left, both-right, both-false, both-fails, both-all, both-none, decided, either-cases, either-false-left, either-left, either-none, either-right}
 use Rattle.words.proofs.Sums.{tally-ext}
 use Rattle.words.proofs.Digits.{bit-set, fill-ext}
 use Rattle.tables.specs.declared.chain.Climb.{Climb}
@@ -234,14 +234,13 @@ module _ (places signers subjects : List ℕ) (count q : ℕ) where
       ∙ set-ext (λ s. false) (signed-by (outside 0 count) b)
       (λ s l. sym (any-fails _ count (λ m below. rw (le-ltb m 0 (omega arith), lt-leb count m below))))
 
-  -- a message that is not in the view adds nobody
-  gather-past : (picked : ℕ → Bool) (m : ℕ) (sets : List ℕ) → m < count → eqb (digit 4 (getD places m 0) q) view ≡ false
+  -- a message by which no office signed a block adds nobody
+  gather-past : (picked : ℕ → Bool) (m : ℕ) (sets : List ℕ) → m < count → ((b s : ℕ) → s < 32 → signs places signers subjects q s b m ≡ false)
       → Gathered picked sets → Gathered (λ k. either (picked k) (eqb k m)) sets
-  unfolding both
-  gather-past picked m sets below out h b l =
+  gather-past picked m sets below nobody h b l =
       h b l
       ∙ set-ext (signed-by picked b) (signed-by (λ k. either (picked k) (eqb k m)) b)
-      (λ s k. sym (any-with picked (signs places signers subjects q s b) count m below ∙ rw (out, either-none)))
+      (λ s k. sym (any-with picked (signs places signers subjects q s b) count m below ∙ rw (nobody b s k, either-none)))
 
   -- one that is there adds its signer to those of the block x that it is about
   gather-into : (picked : ℕ → Bool) (m : ℕ) (sets : List ℕ) (x w : ℕ) → m < count → eqb (digit 4 (getD places m 0) q) view ≡ true
@@ -262,17 +261,29 @@ module _ (places signers subjects : List ℕ) (count q : ℕ) where
             (λ s k. rw (any-with picked (signs places signers subjects q s b) count m below, inside, ne-eqb (getD subjects m 0) b (λ o. there (sym (about ∙ o))), both-none, either-none))
       ]
 
+  -- no office signs by a message that is not in the view, or whose signer is none of the 32
+  nobody-signs : (m : ℕ) → both (eqb (digit 4 (getD places m 0) q) view) (ltb (getD signers m 0) 32) ≡ false
+      → (b s : ℕ) → s < 32 → signs places signers subjects q s b m ≡ false
+  unfolding saysIn
+  nobody-signs m none b s l =
+      both-fails (eqb (digit 4 (getD places m 0) q) view) _
+      (λ inside.
+      let stray : 32 ≤ getD signers m 0 = ltb-false (getD signers m 0) 32 (both-false _ _ none inside) in
+      both-fails (eqb (getD signers m 0) s) _ (λ same. absurd (omega (arith, eqb-true (getD signers m 0) s same))))
+
   -- a message that was noted, in the view or not
   pub gather-noted : (picked : ℕ → Bool) (m : ℕ) (sets noted : List ℕ) → m < count → length sets ≡ 256 → Gathered picked sets
-      → (noted ≡ choose (eqb (digit 4 (getD places m 0) q) view) (set sets (getD subjects m 0) (setOf (λ s. either (eqb (digit 2 (getD sets (getD subjects m 0) 0) s) 1) (eqb (getD signers m 0) s)))) sets) × (getD subjects m 0 < 256)
+      → (noted ≡ choose (both (eqb (digit 4 (getD places m 0) q) view) (ltb (getD signers m 0) 32)) (set sets (getD subjects m 0) (setOf (λ s. either (eqb (digit 2 (getD sets (getD subjects m 0) 0) s) 1) (eqb (getD signers m 0) s)))) sets) × (getD subjects m 0 < 256)
       → Gathered (λ k. either (picked k) (eqb k m)) noted × (length noted ≡ 256)
   unfolding choose
   gather-noted picked m sets noted below whole h (n, within) =
+      let test : Bool = both (eqb (digit 4 (getD places m 0) q) view) (ltb (getD signers m 0) 32) in
       ⊎-elim
-      (λ (inside : eqb (digit 4 (getD places m 0) q) view ≡ true).
-      rw (n, inside) (gather-into picked m sets (getD subjects m 0) _ below inside whole refl within refl h, simp length-set whole))
-      (λ (out : eqb (digit 4 (getD places m 0) q) view ≡ false). rw (n, out) (gather-past picked m sets below out h, whole))
-      (decided (eqb (digit 4 (getD places m 0) q) view))
+      (λ (adds : test ≡ true).
+      rw (n, adds)
+      (gather-into picked m sets (getD subjects m 0) _ below (both-left _ (ltb (getD signers m 0) 32) adds) whole refl within refl h, simp length-set whole))
+      (λ (none : test ≡ false). rw (n, none) (gather-past picked m sets below (nobody-signs m none) h, whole))
+      (decided test)
 
   -- the next message at either end
   pub gather-ends : (low high : ℕ) (sets : List ℕ) → low < high

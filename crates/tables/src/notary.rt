@@ -1,9 +1,9 @@
 // Who signed each block, in an office's view.
 ghost use mathlib.Core.Path.{_≡_};
 ghost use Prim.Native.Nat.{ℕ, _≤_, _<_};
-ghost use lib.Dec.{eqb};
+ghost use lib.Dec.{eqb, ltb};
 ghost use lib.ListN.{getD, set};
-ghost use Rattle.words.specs.Tests.{choose, either};
+ghost use Rattle.words.specs.Tests.{choose, both, either};
 ghost use Rattle.words.specs.Digits.{digit};
 ghost use Rattle.tables.specs.Messages.{view};
 ghost use Rattle.tables.specs.Searches.{signedIn, setOf};
@@ -11,9 +11,9 @@ ghost use Rattle.tables.specs.Searches.{signedIn, setOf};
 // One message more: where it is in office q's view, its last stage, its signer is among the signers of its block. A signer from 32 up is no
 // office, and is left out. A block's number is below 256, which a caller that has it from a column learns here.
 fn note(sets: &mut [u32; 256], place: u64, q: u8, signer: u8, subject: u8)
-    ensures { λ _. ⌜ (now (sets .exit) ≡ choose (eqb (digit 4 place q) view) (set (now (sets .entry)) subject (setOf (λ s. either (eqb (digit 2 (getD (now (sets .entry)) subject 0) s) 1) (eqb signer s)))) (now (sets .entry))) × (subject < 256) ⌝ }
+    ensures { λ _. ⌜ (now (sets .exit) ≡ choose (both (eqb (digit 4 place q) view) (ltb signer 32)) (set (now (sets .entry)) subject (setOf (λ s. either (eqb (digit 2 (getD (now (sets .entry)) subject 0) s) 1) (eqb signer s)))) (now (sets .entry))) × (subject < 256) ⌝ }
 {
-    if words::is_last_stage(place, q) {
+    if words::is_last_stage(place, q) & (signer < 32) {
         let b = subject as usize;
         sets[b] = words::with_member(sets[b], signer);
     }

@@ -8,7 +8,6 @@ ghost use Rattle.words.specs.Digits.{digit};
 ghost use Rattle.tables.specs.Blocks.{trustedIn, madeIn, parentIn, epochIn, alike, namedIn};
 ghost use Rattle.tables.specs.Messages.{view, saysIn, historyIn};
 ghost use Rattle.tables.specs.Searches.{signedIn};
-use crate::stage::VIEW;
 
 // So many messages the columns have room for.
 const MESSAGES: usize = 1024;
@@ -141,7 +140,7 @@ fn chunk_says<'a>(
     found
 }
 
-// One of the first `size` messages of that chunk is in office q's view and has that signer and that block. The places are read
+// One of the first `size` messages of that chunk is in office q's view, their last stage, and has that signer and that block. The places are read
 // only where the chunk has such a message at all.
 fn chunk_signed<'a>(
     places: &'a [u64; 1024],
@@ -162,7 +161,7 @@ fn chunk_signed<'a>(
     let mut i = 0;
     while i < size {
         let m = from + i;
-        if (words::stage(places[m], q) == VIEW) & says(signers, subjects, signer, b, m) {
+        if words::is_last_stage(places[m], q) & says(signers, subjects, signer, b, m) {
             return true;
         }
         i += 1;

@@ -33,14 +33,14 @@ loop-holds c = (search needs, refl)
 add-m : tie.Need-add-m Inv-loop μ-loop
 add-m c = search needs
 
-mul-stage : tie.Need-mul-stage Inv-loop μ-loop
-mul-stage c = search needs
+mul-is-last-stage : tie.Need-mul-is-last-stage Inv-loop μ-loop
+mul-is-last-stage c = search needs
 
-element-copy-out-stage : tie.Need-element-copy-out-stage Inv-loop μ-loop
-element-copy-out-stage c = search needs
+element-copy-out-is-last-stage : tie.Need-element-copy-out-is-last-stage Inv-loop μ-loop
+element-copy-out-is-last-stage c = search needs
 
-stage-requires : tie.Need-stage-requires Inv-loop μ-loop
-stage-requires c κs = search needs
+is-last-stage-requires : tie.Need-is-last-stage-requires Inv-loop μ-loop
+is-last-stage-requires c κs = search needs
 
 says-requires : tie.Need-says-requires Inv-loop μ-loop
 says-requires c κs = search needs
@@ -52,7 +52,7 @@ returns-2 c =
     let at-loop = at-loop-test .before in
     sym
     (any-make _ _ (at-loop .loop .i) (at-loop-test .loop-test .taken)
-    (sym (rw (at-stage .stage .ensures, c .before .says .ensures) (and-both _ _)) ∙ c .if2 .taken))
+    (sym (rw (at-stage .is-last-stage .ensures, c .before .says .ensures) (and-both _ _)) ∙ c .if2 .taken))
 
 add-i : tie.Need-add-i Inv-loop μ-loop
 add-i c = search needs
@@ -66,7 +66,7 @@ loop-again c =
     let at-loop = at-stage .before .before .before in (
       search needs,
       any-next _ _ false false (at-loop .loop .inv .1)
-          (sym (c .if2 .left) ∙ rw (at-stage .stage .ensures, c .before .says .ensures) (and-both _ _)),
+          (sym (c .if2 .left) ∙ rw (at-stage .is-last-stage .ensures, c .before .says .ensures) (and-both _ _)),
     )
 
 returns-3 : tie.Need-returns-3 Inv-loop μ-loop
@@ -84,9 +84,9 @@ chunk-signed-spec =
     returns
     loop-holds
     add-m
-    mul-stage
-    element-copy-out-stage
-    stage-requires
+    mul-is-last-stage
+    element-copy-out-is-last-stage
+    is-last-stage-requires
     says-requires
     returns-2
     add-i
