@@ -50,9 +50,14 @@ element-copy-out-is-sound c = search needs
 is-sound-requires : tie.Need-is-sound-requires Inv-loop μ-loop
 is-sound-requires c κs = search needs
 
--- the block reached was tested
-tested : (c : tie.After-is-sound Inv-loop μ-loop) → c .is-sound .result
-    ≡ soundFrom (c .before .before .before .before .before .before .before .args .sets .now) (c .before .before .before .before .before .before .before .args .parents .now) (c .before .before .before .before .before .before .before .args .epochs .now) (c .before .before .before .before .before .before .before .args .last) (c .before .before .before .before .before .before .before .args .n) (c .before .before .before .before .before .loop .at)
+-- what the test of a block tells: whether the block reached is sound
+abbrev Tested : (c : tie.After-is-sound Inv-loop μ-loop) → Type 0
+Tested c =
+    let at-loop = c .before .before .before .before .before in
+    let a = at-loop .before .before .args in
+    c .is-sound .result ≡ soundFrom (a .sets .now) (a .parents .now) (a .epochs .now) (a .last) (a .n) (at-loop .loop .at)
+
+tested : (c : tie.After-is-sound Inv-loop μ-loop) → Tested c
 tested c =
     let at-below = c .before .before in
     let at-parent = at-below .before in

@@ -93,9 +93,14 @@ element-copy-out-is-sound c = search needs
 is-sound-requires : tie.Need-is-sound-requires Inv-climb μ-climb Inv-walk μ-walk
 is-sound-requires c κs = search needs
 
--- the block reached was tested
-tested : (c : tie.After-is-sound Inv-climb μ-climb Inv-walk μ-walk) → c .is-sound .result
-    ≡ soundFrom (c .before .before .before .before .before .before .before .before .before .before .before .args .sets .now) (c .before .before .before .before .before .before .before .before .before .before .before .args .parents .now) (c .before .before .before .before .before .before .before .before .before .before .before .args .epochs .now) (c .before .before .before .before .before .before .before .before .before .before .before .args .last) (c .before .before .before .before .before .before .before .before .before .before .before .args .n) (c .before .before .before .before .before .before .before .climb .at)
+-- what the test of a block tells: whether the block reached is sound
+abbrev Tested : (c : tie.After-is-sound Inv-climb μ-climb Inv-walk μ-walk) → Type 0
+Tested c =
+    let at-climb = c .before .before .before .before .before .before .before in
+    let a = at-climb .before .before .before .before .args in
+    c .is-sound .result ≡ soundFrom (a .sets .now) (a .parents .now) (a .epochs .now) (a .last) (a .n) (at-climb .climb .at)
+
+tested : (c : tie.After-is-sound Inv-climb μ-climb Inv-walk μ-walk) → Tested c
 tested c =
     let at-below = c .before .before in
     let at-parent = at-below .before in
