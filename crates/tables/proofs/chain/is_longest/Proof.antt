@@ -6,7 +6,8 @@ use native.Mathlib.Omega.{arith}
 use borrow.Author.Tests.{not-true, not-false}
 use Rattle.tables.specs.Searches.{soundFrom, soundIn}
 use Rattle.tables.proofs.Chains.{parent-in-lt}
-use Rattle.tables.proofs.Searching.{unsound-climb, sound-climb, longest-broken, longest-searched, sound-gathered}
+use Rattle.tables.proofs.Gathering.{sound-gathered}
+use Rattle.tables.proofs.Searching.{unsound-climb, sound-climb, longest-broken, longest-searched}
 use Rattle.tables.proofs.chain.is_longest.Statement.{statement}
 use Rattle.tables.proofs.chain.is_longest.Tie as tie
 

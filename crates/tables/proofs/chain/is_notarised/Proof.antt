@@ -4,7 +4,8 @@ use mathlib.Core.Path.{ap, _∙_}
 use native.Mathlib.Omega.{arith}
 use Rattle.tables.specs.Searches.{climbed}
 use Rattle.tables.proofs.Chains.{parent-in-lt}
-use Rattle.tables.proofs.Searching.{sound-same, sound-gathered}
+use Rattle.tables.proofs.Gathering.{sound-gathered}
+use Rattle.tables.proofs.Searching.{sound-same}
 use Rattle.tables.proofs.chain.is_notarised.Statement.{statement}
 use Rattle.tables.proofs.chain.is_notarised.Tie as tie
 

@@ -6,7 +6,7 @@ use native.Mathlib.Omega.{arith}
 use lib.Dec.{eqb}
 use lib.ListN.{length}
 use Rattle.words.specs.Tests.{either}
-use Rattle.tables.proofs.Searching.{outside, Gathered, gather-none, gather-noted, gather-ends, gather-all}
+use Rattle.tables.proofs.Gathering.{outside, Gathered, gather-none, gather-noted, gather-ends, gather-all}
 use Rattle.tables.proofs.notary.gather.Statement.{statement}
 use Rattle.tables.proofs.notary.gather.Tie as tie
 
