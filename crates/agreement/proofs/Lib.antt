@@ -1,6 +1,4 @@
 -- The proof of agreement, in this order.
-pub mod Growth
-pub mod Effects
 pub mod Safety
 pub mod Preservation
 pub mod Sizes

@@ -12,7 +12,7 @@ use Rattle.register.specs.declared.table.Register.{Register}
 use Rattle.register.specs.Tables.{trusted, acted, made, parentOf, epochOf, sentOf, signerOf, blockOf, finalOf}
 use Rattle.register.specs.Chains.{chainLength, chainNotarised}
 use Rattle.register.proofs.Chains.{parent-le}
-use Rattle.agreement.proofs.Growth.{Grows, trusted-kept, made-grows, parent-kept, epoch-kept, length-kept, chain-notarised-kept, consecutive-kept}
+use Rattle.register.proofs.Growth.{Grows, trusted-kept, made-grows, parent-kept, epoch-kept, length-kept, chain-notarised-kept, consecutive-kept}
 use Rattle.agreement.proofs.Safety.{Signature, Vouched, Before, Ordered, same, before, after, Finalised, genesis, middle, Safe, Signing, News, Clock, still, later, Lawful, signed-le, longest-notarised, longest-most}
 
 module _ {r s : Register} (safe : Safe r) (step : Lawful r s) where

@@ -17,7 +17,7 @@ use Rattle.register.specs.Views.{says}
 use Rattle.register.specs.Chains.{chainLength, chainNotarised, longer, longest}
 use Rattle.register.proofs.Tables.{Sizes}
 use Rattle.register.proofs.Finalising.{Consecutive}
-use Rattle.agreement.proofs.Growth.{Grows}
+use Rattle.register.proofs.Growth.{Grows}
 
 -- a message of the history has signer h and block x
 pub record Signature (r : Register) (h x : ℕ) : Type 0 where

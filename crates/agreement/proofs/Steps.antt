@@ -35,15 +35,13 @@ use Rattle.register.specs.Refusals.{noOffice, noBlock, noMessage, offEpoch, not
 use Rattle.register.specs.Effects.{withBlock, withNamed, withSent, withMoved, withActed, withFinal, withNextEpoch}
 use Rattle.register.specs.Steps.{propose, vote, register, finalise, deliver, badSend, draft, advance, ruleOf, stepRule}
 use Rattle.register.proofs.Tables.{Sizes, sent-new}
-use Rattle.register.proofs.Places.{Placed}
-use Rattle.register.proofs.Accepted.{in-hand, deliver-placed, register-placed}
 use Rattle.register.proofs.Judging.{judged-has}
 use Rattle.register.proofs.Naming.{MadeOf, named-keeps, named-made}
 use Rattle.register.proofs.Chains.{parent-le}
 use Rattle.register.proofs.Finalising.{consecutive}
 use Rattle.agreement.specs.Moments.{after}
-use Rattle.agreement.proofs.Growth.{Grows, grows-refl, grows-trans, consecutive-kept}
-use Rattle.agreement.proofs.Effects.{grows-acted, grows-final, grows-epoch, grows-named, grows-sent, grows-moved}
+use Rattle.register.proofs.Growth.{Grows, grows-refl, consecutive-kept}
+use Rattle.register.proofs.Growing.{grows-final, grows-propose, grows-vote, grows-register, grows-deliver, grows-bad-send, grows-draft, grows-advance}
 use Rattle.agreement.proofs.Safety.{Signature, Finalised, middle, Safe, Signing, News, still, later, Lawful, signature, made-le}
 use Rattle.agreement.proofs.Sizes.{sizes-named, sizes-sent, sizes-moved, sizes-acted, sizes-final, sizes-epoch}
 
@@ -91,7 +89,6 @@ one-new r s new more is news m l = by (decLt m (r .count))
 
 -- Register r is ready for trusted office q to sign block b: what is done to it first gives `next`.
 record Signable (r next : Register) (q b : ℕ) : Type 0 where
-  pub grows : Grows r next
   pub sizes : Sizes next
   pub epoch : next .epoch ≡ r .epoch
   pub marks : next .acted ≡ r .acted
@@ -105,10 +102,12 @@ record Signable (r next : Register) (q b : ℕ) : Type 0 where
   pub room : r .count < 1024
 
 -- an office signs a block: what propose and vote share
-lawful-signed : (r next : Register) (q : Office) (kind : Kind) (b : ℕ) → Signable r next (q .0) b
+lawful-signed : (r next : Register) (q : Office) (kind : Kind) (b : ℕ)
+    → Grows r (withActed (withSent next (q .0) (record { kind = kind; signer = q; block = block b })) (q .0))
+    → Signable r next (q .0) b
     → Lawful r (withActed (withSent next (q .0) (record { kind = kind; signer = q; block = block b })) (q .0))
 unfolding acted withActed withSent made epochOf parentOf finalOf sentOf
-lawful-signed r next q kind b p =
+lawful-signed r next q kind b grows p =
     let new : Sent = record { kind = kind; signer = q; block = block b } in
     let sent : Register = withSent next (q .0) new in
     let end : Register = withActed sent (q .0) in
@@ -125,7 +124,7 @@ lawful-signed r next q kind b p =
     let is : sentOf end (r .count) ≡ new =
     ap (sentOf end) (sym (p .count)) ∙ sent-new next (p .sizes) (q .0) new (omega (arith, p .count, p .room)) in
     record {
-      grows = grows-trans (p .grows) (grows-trans (grows-sent next (q .0) new) (grows-acted sent (q .0)));
+      grows = grows;
       sizes = sizes-acted (sizes-sent (p .sizes) (q .0) new) (q .0);
       clock = still (ap (λ (e : Epoch). e .0) (p .epoch))
           (λ h a. acted-kept sent (q .0) h ready (ap (λ (w : ℕ). eqb (digit 2 w h) 1) (p .marks) ∙ a));
@@ -145,9 +144,8 @@ lawful-propose r office parent w safe h =
     let next : Register = withNamed r p e w in
     let low : p ≤ r .last .0 = ltb-false _ _ (cleared 6 tests h) in
     let b : MadeOf next p e (named r p e w) = named-made r p e w (safe .sizes) low (cleared 24 tests h) in
-    lawful-signed r next office kinds.Proposal (named r p e w)
+    lawful-signed r next office kinds.Proposal (named r p e w) (grows-propose r office parent w)
     (record {
-      grows = grows-named r p e w;
       sizes = sizes-named (safe .sizes) p e w;
       epoch = named-keeps r p e w (λ (x : Register). x .epoch) refl;
       marks = named-keeps r p e w (λ (x : Register). x .acted) refl;
@@ -171,9 +169,8 @@ lawful-vote r office message safe h =
     let tests : List Refusal = vote r office message .tests in
     let about : made r b ≡ true = safe .about m (leb-false _ _ (cleared 7 tests h)) in
     let now : eqb (epochOf r b) (r .epoch .0) ≡ true = not-false _ (either-false-right _ _ (cleared 16 tests h)) in
-    lawful-signed r (withMoved r m q) office kinds.Vote b
+    lawful-signed r (withMoved r m q) office kinds.Vote b (grows-vote r office message h)
     (record {
-      grows = grows-moved r m q 1 (omega arith) (in-hand r q m (cleared 14 tests h));
       sizes = sizes-moved (safe .sizes) m q;
       epoch = refl;
       marks = refl;
@@ -188,11 +185,11 @@ lawful-vote r office message safe h =
     })
 
 -- a message moves on: what register and deliver share
-lawful-moved : (r : Register) (m q k : ℕ) → Safe r → k < 2 → Placed r q m (suc k) → Lawful r (withMoved r m q)
+lawful-moved : (r : Register) (m q : ℕ) → Safe r → Grows r (withMoved r m q) → Lawful r (withMoved r m q)
 unfolding withMoved acted finalOf
-lawful-moved r m q k safe low here =
+lawful-moved r m q safe grows =
     record {
-      grows = grows-moved r m q k low here;
+      grows = grows;
       sizes = sizes-moved (safe .sizes) m q;
       clock = still refl (λ h a. a);
       one = omega arith;
@@ -204,13 +201,13 @@ lawful-register : (r : Register) (office : Office) (message : Message) → Safe 
     → Lawful r (register r office message .effect)
 unfolding register
 lawful-register r office message safe h =
-    lawful-moved r (message .0) (office .0) 1 safe (omega arith) (register-placed r office message h)
+    lawful-moved r (message .0) (office .0) safe (grows-register r office message h)
 
 lawful-deliver : (r : Register) (message : Message) (office : Office) → Safe r → first (deliver r message office .tests) ≡ 0
     → Lawful r (deliver r message office .effect)
 unfolding deliver
 lawful-deliver r message office safe h =
-    lawful-moved r (message .0) (office .0) 0 safe (omega arith) (deliver-placed r message office h)
+    lawful-moved r (message .0) (office .0) safe (grows-deliver r message office h)
 
 -- one office's final block changes, and the others' stay
 finals-after : (r : Register) (q c p : ℕ) → q < length (r .finals) → Finalised (withFinal r q c) q c
@@ -271,7 +268,7 @@ lawful-bad-send r sender kind signer about safe h =
     let known : trusted r (signer .0) ≡ true → Signature r (signer .0) b =
     λ t. in-history r kind (signer .0) b (not-false _ (both-false _ _ (cleared 21 tests h) t)) in
     record {
-      grows = grows-sent r (sender .0) new;
+      grows = grows-bad-send r sender kind signer about;
       sizes = sizes-sent (safe .sizes) (sender .0) new;
       clock = still refl (λ x a. a);
       one = omega arith;
@@ -287,7 +284,7 @@ lawful-draft r parent epoch w safe =
     let p : ℕ = parent .0 in
     let e : ℕ = epoch .0 in
     record {
-      grows = grows-named r p e w;
+      grows = grows-draft r parent epoch w;
       sizes = sizes-named (safe .sizes) p e w;
       clock = still (named-keeps r p e w (λ (x : Register). x .epoch .0) refl) (λ h a. named-keeps r p e w (λ (x : Register). acted x h) refl ∙ a);
       one = omega (arith, named-keeps r p e w (λ (x : Register). x .count) refl);
@@ -299,7 +296,7 @@ lawful-advance : (r : Register) → Safe r → Lawful r (advance r .effect)
 unfolding advance withNextEpoch finalOf
 lawful-advance r safe =
     record {
-      grows = grows-epoch r;
+      grows = grows-advance r;
       sizes = sizes-epoch (safe .sizes);
       clock = later (omega arith);
       one = omega arith;

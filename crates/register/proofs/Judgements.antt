@@ -51,6 +51,15 @@ pub still-last : (r : Register) (still : Change) → r .last .0 ≤ 255 → stil
 unfolding stillOf headOf
 still-last r still small is = subst⁻¹ (λ (s : Change). s .head .last .0 ≤ 255) is small
 
+-- what a finalise step reads of it: a chain that is notarised in the register is so there
+pub still-notarised : (r : Register) (still : Change) (q b : ℕ) → still ≡ stillOf r → chainNotarised r q b ≡ true
+    → chainNotarised (whole (still .head) [] (r .parents) (r .epochs) [] [] (r .signers) (r .subjects) (r .places) []) q b ≡ true
+unfolding whole stillOf headOf chainNotarised valid notarised signers signed inView says stage trusted chain parentOf epochOf
+still-notarised r still q b is known =
+    subst⁻¹
+    (λ (s : Change).
+    chainNotarised (whole (s .head) [] (r .parents) (r .epochs) [] [] (r .signers) (r .subjects) (r .places) []) q b ≡ true) is known
+
 -- the entries of a refused step, or of an accepted one, are within the tables
 answer-within : (still : Change) (k : ℕ) (c : Change) → Within still → (k ≡ 0 → Within c) → Within (answer still k c)
 unfolding answer

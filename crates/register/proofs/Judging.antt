@@ -10,7 +10,7 @@ use Rattle.register.specs.declared.table.Register.{Register}
 use Rattle.register.specs.Steps.{Rule, refusal, judged}
 
 -- where nothing is refused, the rule's own tests refuse nothing
-passed : (fits : Bool) (rule : Rule) → refusal fits rule ≡ 0 → first (rule .tests) ≡ 0
+pub passed : (fits : Bool) (rule : Rule) → refusal fits rule ≡ 0 → first (rule .tests) ≡ 0
 unfolding refusal first choose
 passed true rule h = h
 passed false rule h = absurd (omega arith)

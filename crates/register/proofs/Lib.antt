@@ -12,6 +12,9 @@ pub mod Sending
 pub mod Testing
 pub mod Ranges
 pub mod Judging
+pub mod Growth
+pub mod Growing
+pub mod Settling
 pub mod FitSteps
 pub mod FitOpening
 pub mod Searching

@@ -1,7 +1,7 @@
 -- What the code's searches over columns find, said of a register. The code reads 1,024 messages and 32 offices at most: of a register that has no
 -- more, all.
 use Prim.Native.Nat.{ℕ, _+_, _≤_, min}
-use mathlib.Core.Path.{_≡_, ap, _∙_}
+use mathlib.Core.Path.{_≡_, sym, ap, _∙_}
 use mathlib.Core.Bool.{Bool, true}
 use native.Mathlib.Omega.{arith}
 use borrow.Author.Tests.{lt-ltb}
@@ -13,8 +13,10 @@ use Rattle.words.proofs.Sums.{tally-ext}
 use Rattle.tables.specs.Blocks.{parentIn}
 use Rattle.tables.specs.Messages.{historyIn}
 use Rattle.tables.specs.Chains.{chainBy}
-use Rattle.tables.specs.Searches.{signedIn, notarisedIn, soundBy, soundIn, longerBy, longestBy}
+use Rattle.tables.specs.Searches.{signedIn, notarisedIn, soundBy, soundIn, above, longerBy, longestBy}
 use Rattle.tables.proofs.Scans.{signs}
+use Rattle.tables.proofs.Chains.{parent-in-lt}
+use Rattle.tables.proofs.Searching.{sound-above}
 use Rattle.register.specs.declared.sorts.Kind.{Kind}
 use Rattle.register.specs.declared.table.Register.{Register}
 use Rattle.register.specs.Tables.{trusted, parentOf, epochOf, isVote}
@@ -61,10 +63,19 @@ module _ (r : Register) (few : r .count ≤ 1024) (offices : r .n ≤ 32) (q : �
       (λ s l. signed-in r few q s b h)))
 
   -- a chain is notarised there where each of its blocks is sound
-  pub chain-notarised-by : (b : ℕ) → chainNotarised r q b ≡ every (soundOf r q) (chainBy (parentIn (r .parents) (r .last .0)) b)
+  chain-notarised-by : (b : ℕ) → chainNotarised r q b ≡ every (soundOf r q) (chainBy (parentIn (r .parents) (r .last .0)) b)
   unfolding chainNotarised valid chain parentOf epochOf soundIn soundBy
   chain-notarised-by b =
       every-both (λ x. ltb (epochOf r (parentOf r x)) (epochOf r x)) (notarised r q) (chain r b) ∙ simp notarised-in
+
+  -- or where those above a block are whose own chain is known to be notarised there
+  pub notarised-above : (base b : ℕ) → chainNotarised r q base ≡ true
+      → chainNotarised r q b ≡ every (soundOf r q) (above base (chainBy (parentIn (r .parents) (r .last .0)) b))
+  notarised-above base b known =
+      chain-notarised-by b
+      ∙ sym
+      (sound-above (parentIn (r .parents) (r .last .0)) (parent-in-lt (r .parents) (r .last .0)) (soundOf r q) base
+      (sym (chain-notarised-by base) ∙ known) b)
 
   -- and longest there where the search over sound blocks finds no longer one
   pub longest-by : (b : ℕ) → longest r q b ≡ longestBy (parentIn (r .parents) (r .last .0)) (soundOf r q) (r .last .0) b

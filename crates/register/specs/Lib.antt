@@ -1,5 +1,5 @@
 -- The rules of the register. Read in this order, after the specs of `tables`, where what single columns say is defined (each name that ends in
--- `In`, the four stages, `chainBy`). Changes is for contracts inside the crate alone.
+-- `In`, the four stages, `chainBy`). Changes and Settled are for contracts inside the crate alone.
 pub mod Tables
 pub mod Views
 pub mod Chains
@@ -11,3 +11,4 @@ pub mod Steps
 pub mod Runs
 pub mod Promises
 pub mod Changes
+pub mod Settled

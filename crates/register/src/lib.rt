@@ -5,6 +5,7 @@ pub mod opening;
 mod read;
 pub mod refusal;
 pub mod run;
+mod settled;
 pub mod sorts;
 pub mod step;
 mod steps;

@@ -5,6 +5,7 @@ ghost use Rattle.register.specs.Steps.{stepRule, quickRule};
 ghost use Rattle.register.specs.Runs.{ranFirst};
 use crate::change::Head;
 use crate::refusal;
+use crate::settled::settled_after;
 use crate::sorts::Block;
 use crate::sorts::Epoch;
 use crate::sorts::Kind;
@@ -38,8 +39,10 @@ impl Register {
         let limit = in_batch(count);
         let mut refusals = [0u8; 256];
         let mut values = [0u16; 256];
+        let mut settled = 0;
         let mut i = 0;
         while i < limit {
+            let step = steps[i];
             let head = Head {
                 n: self.n,
                 trust: self.trust,
@@ -60,7 +63,8 @@ impl Register {
                 &self.subjects,
                 &self.places,
                 &self.finals,
-                steps[i],
+                settled,
+                step,
             );
             self.epoch.0 = c.head.epoch.0;
             self.last.0 = c.head.last.0;
@@ -79,6 +83,7 @@ impl Register {
             self.places[p] = c.place.place;
             let q = c.ending.at;
             self.finals[q] = c.ending.block;
+            settled = settled_after(settled, step, c.refusal);
             refusals[i] = c.refusal;
             values[i] = c.value;
             i += 1;

@@ -1,10 +1,13 @@
--- Gathering signers: which messages the sets hold at each turn of the loop, and that the sets of all messages say what the columns do.
-use Prim.Native.Nat.{ℕ, _+_, _-_, _<_, _≤_}
+-- Gathering signers, of all blocks or of one: which messages the sets hold at each turn of the loop, and that the sets of all messages say what
+-- the columns do.
+use Prim.Native.Nat.{ℕ, zero, suc, _+_, _-_, _<_, _≤_}
 use mathlib.Core.Path.{_≡_, refl, sym, ap, _∙_}
 use mathlib.Core.Bool.{Bool, true, false}
 use mathlib.Core.Logic.{⊎-elim}
 use mathlib.Core.List.{List}
 use native.Mathlib.Omega.{arith}
+use native.Mathlib.Nat.{add-zero, add-suc}
+use native.Mathlib.Numerals.{add-one}
 use native.Mathlib.Decide.{ℕ-discrete, decLt}
 use borrow.Author.Tests.{eq-eqb, ne-eqb, eqb-true, lt-ltb, le-ltb, ltb-false, le-leb, lt-leb}
 use lib.Dec.{eqb, ltb, leb}
@@ -14,7 +17,7 @@ use Rattle.quorum.specs.Enough.{enough}
 use Rattle.words.specs.Digits.{digit, fill}
 use Rattle.words.specs.Sums.{tally}
 use Rattle.words.specs.Tests.{choose, both, either, any}
-use Rattle.words.proofs.Tests.{any-fails, any-same, any-with, both-left, both-false, both-fails, both-all, both-none, decided, either-left, either-none, either-right}
+use Rattle.words.proofs.Tests.{any-fails, any-none, any-same, any-with, both-left, both-false, both-fails, both-all, both-none, decided, either-left, either-none, either-right}
 use Rattle.words.proofs.Sums.{tally-ext}
 use Rattle.words.proofs.Digits.{bit-set, fill-ext}
 use Rattle.tables.specs.Messages.{view, saysIn}
@@ -161,21 +164,66 @@ module _ (places signers subjects : List ℕ) (count q : ℕ) where
       ∙ set-ext (signed-by (outside low high) b) (λ s. signedIn places signers subjects count q s b)
       (λ s below. any-same _ _ count (λ m within. rw (outside-all low high m l)))
 
+-- two sets, one of which a test takes, are one set
+choose-set : (t : Bool) (p q : ℕ → Bool) → choose t (setOf p) (setOf q) ≡ setOf (λ s. choose t (p s) (q s))
+unfolding choose
+choose-set true p q = refl
+choose-set false p q = refl
+
+-- an office is among the signers already, or the message joins it to them: it is about the block, in the view, and signed by the office
+joins : (about inside mine old : Bool) → choose (both about inside) (either old mine) old ≡ either old (both inside (both mine about))
+unfolding choose both
+joins true true mine old = rw both-all
+joins true false mine old = rw either-none
+joins false true mine old = rw (both-none, either-none)
+joins false false mine old = rw either-none
+
+module _ (places signers subjects : List ℕ) (q b : ℕ) where
+  -- no office has signed by none of the messages
+  pub signers-none : 0 ≡ setOf (λ s. signedIn places signers subjects 0 q s b)
+  unfolding signedIn any setOf fill choose
+  signers-none = refl
+
+  -- the signers by the messages before a chunk and its first i, and the next
+  pub signers-next : (from i w next : ℕ) → w ≡ setOf (λ s. signedIn places signers subjects (from + i) q s b)
+      → next ≡ choose (both (eqb (getD subjects (from + i) 0) b) (eqb (digit 4 (getD places (from + i) 0) q) view)) (setOf (λ s. either (eqb (digit 2 w s) 1) (eqb (getD signers (from + i) 0) s))) w
+      → next ≡ setOf (λ s. signedIn places signers subjects (from + (i + 1)) q s b)
+  unfolding signedIn saysIn any
+  signers-next from i w next h e =
+      rw (e, h, choose-set _ _ _)
+      (set-ext _ (λ s. signedIn places signers subjects (from + (i + 1)) q s b)
+      (λ s l. rw (in-set (λ s. signedIn places signers subjects (from + i) q s b) s l, add-one, add-suc) (joins _ _ _ _)))
+
+  -- where no message of the chunk that starts at `from` is about the block, an office has signed it by the messages before the chunk, or not by the
+  -- chunk's first messages either
+  signed-past : (s from size : ℕ) → size ≤ 64 → any 64 (λ i. eqb (getD subjects (from + i) 0) b) ≡ false
+      → signedIn places signers subjects from q s b ≡ signedIn places signers subjects (from + size) q s b
+  unfolding signedIn saysIn any
+  signed-past s from zero few none = rw add-zero
+  signed-past s from (suc size) few none =
+      rw (add-suc, any-none (λ i. eqb (getD subjects (from + i) 0) b) 64 size none (omega arith), both-none, both-none, either-none)
+      (signed-past s from size (omega arith) none)
+
+  -- so they add no signer
+  pub signers-past : (from size w : ℕ) → size ≤ 64 → w ≡ setOf (λ s. signedIn places signers subjects from q s b)
+      → any 64 (λ i. eqb (getD subjects (from + i) 0) b) ≡ false → w ≡ setOf (λ s. signedIn places signers subjects (from + size) q s b)
+  signers-past from size w few h none =
+      h ∙ set-ext _ (λ s. signedIn places signers subjects (from + size) q s b) (λ s l. signed-past s from size few none)
+
+  -- the signers are enough where the block is notarised
+  pub enough-signed : (count n w : ℕ) → w ≡ setOf (λ s. signedIn places signers subjects count q s b) → n ≤ 32 → 0 < b
+      → enough (tally n (λ s. eqb (digit 2 w s) 1)) n ≡ notarisedIn places signers subjects count n q b
+  unfolding notarisedIn either
+  enough-signed count n w e offices above =
+      rw (ne-eqb b 0 (omega arith))
+      (ap (λ (k : ℕ). enough k n)
+      (tally-ext n (λ s. eqb (digit 2 w s) 1) (λ s. signedIn places signers subjects count q s b) (λ s h. rw e (in-set _ s (omega arith)))))
+
 -- the sets that were gathered say which blocks are sound in office q's view
 module _ (places signers subjects parents epochs : List ℕ) (count n last q : ℕ) (sets : List ℕ)
     (gathered : (b : ℕ) → b < 256 → getD sets b 0 ≡ setOf (λ s. signedIn places signers subjects count q s b)) (offices : n ≤ 32) where
-  -- a block's signers are enough where it is notarised
-  enough-gathered : (b : ℕ) → 0 < b → b < 256
-      → enough (tally n (λ s. eqb (digit 2 (getD sets b 0) s) 1)) n ≡ notarisedIn places signers subjects count n q b
-  unfolding notarisedIn either
-  enough-gathered b above l =
-      rw (ne-eqb b 0 (omega arith))
-      (ap (λ (k : ℕ). enough k n)
-      (tally-ext n (λ s. eqb (digit 2 (getD sets b 0) s) 1) (λ s. signedIn places signers subjects count q s b)
-      (λ s h. rw (gathered b l) (in-set _ s (omega arith)))))
-
-  -- and the block is sound by them where it is by the columns
+  -- a block is sound by them where it is by the columns
   pub sound-gathered : (b : ℕ) → 0 < b → b < 256
       → soundFrom sets parents epochs last n b ≡ soundIn places signers subjects parents epochs count n last q b
   unfolding soundIn soundFrom soundBy
-  sound-gathered b above l = rw (enough-gathered b above l)
+  sound-gathered b above l = rw (enough-signed places signers subjects q b count n (getD sets b 0) (gathered b l) offices above)

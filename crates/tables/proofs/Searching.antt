@@ -1,23 +1,24 @@
 -- Climbing chains and searching for a longer one: what a turn of each loop adds, and what it tells of the chain.
 use Prim.Native.Nat.{ℕ, _+_, _<_, _≤_}
-use mathlib.Core.Path.{_≡_, sym, ap, _∙_}
+use mathlib.Core.Path.{_≡_, refl, sym, ap, _∙_}
 use mathlib.Core.Bool.{Bool, true, false, not}
 use mathlib.Core.Logic.{⊎-elim}
-use mathlib.Core.List.{List}
+use mathlib.Core.List.{List, [], _∷_}
 use native.Mathlib.Omega.{arith}
 use native.Mathlib.Nat.{zero-add}
-use borrow.Author.Tests.{eqb-true, eqb-false, lt-ltb, le-ltb, ltb-true}
+use native.Mathlib.Decide.{ℕ-discrete}
+use borrow.Author.Tests.{eq-eqb, ne-eqb, eqb-true, eqb-false, lt-ltb, le-ltb, ltb-true}
 use lib.Dec.{eqb, ltb}
 use lib.ListN.{length, getD}
 use Rattle.quorum.specs.Enough.{enough}
 use Rattle.words.specs.Digits.{digit}
 use Rattle.words.specs.Sums.{tally}
 use Rattle.words.specs.Tests.{choose, both, either, any, every}
-use Rattle.words.proofs.Tests.{any-same, both-left, both-right, both-none, either-cases, either-false-left}
+use Rattle.words.proofs.Tests.{any-same, both-left, both-right, both-none, decided, either-cases, either-left, either-false-left, either-false-right}
 use Rattle.tables.specs.declared.chain.Climb.{Climb}
 use Rattle.tables.specs.Blocks.{parentIn, epochIn}
 use Rattle.tables.specs.Chains.{chainBy}
-use Rattle.tables.specs.Searches.{soundBy, soundFrom, climbed, longerBy, longestBy}
+use Rattle.tables.specs.Searches.{soundBy, soundFrom, above, climbed, longerBy, longestBy}
 use Rattle.tables.proofs.Chains.{Down, chain-by-genesis, chain-by-step, climb-induction}
 
 -- A climb has passed so many blocks, all sound, and comes to block `at`: the blocks from there on are sound too, and all are more than
@@ -26,7 +27,7 @@ unfoldable pub left : (parent : ℕ → ℕ) → (sound : ℕ → Bool) → (bea
 left parent sound beat climbed at = both (every sound (chainBy parent at)) (ltb beat (climbed + length (chainBy parent at)))
 
 -- the chain of genesis is sound
-pub sound-genesis : (parent : ℕ → ℕ) (sound : ℕ → Bool) → every sound (chainBy parent 0) ≡ true
+sound-genesis : (parent : ℕ → ℕ) (sound : ℕ → Bool) → every sound (chainBy parent 0) ≡ true
 unfolding every
 sound-genesis parent sound = rw (chain-by-genesis parent)
 
@@ -62,6 +63,22 @@ module _ (sound : ℕ → Bool) (chain : List ℕ) (up : Climb) (e : up ≡ clim
       let all-sound : every sound chain ≡ true = sym (ap (λ u. u .sound) e) ∙ h in
       (all-sound, sym (rw all-sound at (ap (λ u. u .length) e)))
 
+-- where a chain begins with a block
+module _ (sound : ℕ → Bool) (b : ℕ) (chain older : List ℕ) (e : chain ≡ b ∷ older) where
+  -- that is sound, it is as sound as the rest
+  pub sound-next : sound b ≡ true → every sound chain ≡ every sound older
+  unfolding every both
+  sound-next s = rw (e, s)
+
+  -- that is not, it is not sound
+  pub sound-broken : sound b ≡ false → every sound chain ≡ false
+  unfolding every both
+  sound-broken s = rw (e, s)
+
+-- a climb that ends at genesis, or where another test holds, is above genesis where it goes on
+pub unmet-above : (at : ℕ) (t : Bool) → either (eqb at 0) t ≡ false → 0 < at
+unmet-above at t more = omega (arith, eqb-false at 0 (either-false-left (eqb at 0) t more))
+
 module _ (parent : ℕ → ℕ) (down : Down parent) where
   -- the chain of any block but genesis is one longer than its parent's
   pub length-by-step : (b : ℕ) → 0 < b → length (chainBy parent b) ≡ length (chainBy parent (parent b)) + 1
@@ -73,39 +90,76 @@ module _ (parent : ℕ → ℕ) (down : Down parent) where
       climb-induction parent down (λ (b : ℕ). length (chainBy parent b) ≤ b) (omega (arith, ap length (chain-by-genesis parent)))
       (λ b h ih. omega (arith, ih, length-by-step b h, down b h))
 
-  -- the chain of a sound block is as sound as its parent's
-  pub sound-next : (sound : ℕ → Bool) (b : ℕ) → 0 < b → sound b ≡ true
-      → every sound (chainBy parent b) ≡ every sound (chainBy parent (parent b))
-  unfolding every both
-  sound-next sound b h s = rw (chain-by-step parent down b h, s)
+  -- climbs that end at genesis or at a base
+  module _ (base : ℕ) where
+    -- at the end no block of the chain is above the base
+    pub above-end : (at : ℕ) → either (eqb at 0) (eqb at base) ≡ true → above base (chainBy parent at) ≡ []
+    unfolding above choose either
+    above-end at end =
+        elim (ℕ-discrete at 0) as (λ _. above base (chainBy parent at) ≡ []) [
+          | yes genesis ↦ rw (genesis, chain-by-genesis parent)
+          | no over ↦ rw (chain-by-step parent down at (omega (arith, over)), rw (ne-eqb at 0 over) at end)
+        ]
 
-  -- the chain of a block that is not sound is not
-  pub sound-broken : (sound : ℕ → Bool) (b : ℕ) → 0 < b → sound b ≡ false → every sound (chainBy parent b) ≡ false
-  unfolding every both
-  sound-broken sound b h s = rw (chain-by-step parent down b h, s)
+    -- before it the block is, and then those of its parent's chain
+    pub above-next : (at : ℕ) → either (eqb at 0) (eqb at base) ≡ false → above base (chainBy parent at) ≡ at ∷ above base (chainBy parent (parent at))
+    unfolding above choose
+    above-next at more = rw (chain-by-step parent down at (unmet-above at (eqb at base) more), either-false-right (eqb at 0) (eqb at base) more)
 
-  -- flags that agree on the blocks below 256 agree on every chain of theirs
-  pub sound-same : (p q : ℕ → Bool) → ((b : ℕ) → 0 < b → b < 256 → p b ≡ q b)
-      → (b : ℕ) → b < 256 → every p (chainBy parent b) ≡ every q (chainBy parent b)
+    -- a rule on such climbs by induction: from their ends, and from each parent to its block
+    above-induction : (P : ℕ → Type 0) → ((b : ℕ) → either (eqb b 0) (eqb b base) ≡ true → P b)
+        → ((b : ℕ) → either (eqb b 0) (eqb b base) ≡ false → P (parent b) → P b) → (b : ℕ) → P b
+    above-induction P end step =
+        climb-induction parent down P (end 0 (either-left (eqb 0 0) (eqb 0 base) (eq-eqb 0 0 refl)))
+        (λ b h ih. ⊎-elim (end b) (λ more. step b more ih) (decided (either (eqb b 0) (eqb b base))))
+
+    -- flags that agree on the blocks below 256 agree on every such climb of theirs
+    pub sound-same : (p q : ℕ → Bool) → ((b : ℕ) → 0 < b → b < 256 → p b ≡ q b)
+        → (b : ℕ) → b < 256 → every p (above base (chainBy parent b)) ≡ every q (above base (chainBy parent b))
+    unfolding every
+    sound-same p q same =
+        above-induction (λ (b : ℕ). b < 256 → every p (above base (chainBy parent b)) ≡ every q (above base (chainBy parent b)))
+        (λ b end l. rw (above-end b end))
+        (λ b more ih l.
+        let h : 0 < b = unmet-above b (eqb b base) more in
+        rw (above-next b more, same b h l, ih (omega (arith, down b h))))
+
+  -- where the base's chain is of sound blocks alone, b's is where its blocks above the base are
+  pub sound-above : (sound : ℕ → Bool) (base : ℕ) → every sound (chainBy parent base) ≡ true
+      → (b : ℕ) → every sound (above base (chainBy parent b)) ≡ every sound (chainBy parent b)
   unfolding every
-  sound-same p q same =
-      climb-induction parent down (λ (b : ℕ). b < 256 → every p (chainBy parent b) ≡ every q (chainBy parent b))
-      (λ l. rw (chain-by-genesis parent))
-      (λ b h ih l. rw (chain-by-step parent down b h, same b h l, ih (omega (arith, down b h))))
+  sound-above sound base whole =
+      above-induction base (λ (b : ℕ). every sound (above base (chainBy parent b)) ≡ every sound (chainBy parent b))
+      (λ b end.
+      rw (above-end base b end)
+      (⊎-elim (λ (genesis : eqb b 0 ≡ true). rw (eqb-true b 0 genesis) (sym (sound-genesis parent sound)))
+      (λ (met : eqb b base ≡ true). rw (eqb-true b base met) (sym whole)) (either-cases (eqb b 0) (eqb b base) end)))
+      (λ b more ih. rw (above-next base b more, chain-by-step parent down b (unmet-above b (eqb b base) more), ih))
+
+  -- every block of a chain is above genesis
+  pub above-genesis : (b : ℕ) → above 0 (chainBy parent b) ≡ chainBy parent b
+  unfolding above choose
+  above-genesis =
+      climb-induction parent down (λ (b : ℕ). above 0 (chainBy parent b) ≡ chainBy parent b) (rw (chain-by-genesis parent))
+      (λ b h ih. rw (chain-by-step parent down b h, ne-eqb b 0 (omega arith), ih))
 
   -- flags p that agree with q on the blocks below 256 decide whether a chain is longest by q
   module _ (p q : ℕ → Bool) (same : (b : ℕ) → 0 < b → b < 256 → p b ≡ q b) (last : ℕ) (few : last < 256) (b : ℕ) (l : b < 256) where
+    -- they agree on every chain
+    whole-same : (x : ℕ) → x < 256 → every p (chainBy parent x) ≡ every q (chainBy parent x)
+    whole-same x h = rw (above-genesis x) at (sound-same 0 p q same x h)
+
     -- a chain with a block that is not sound is not longest
     pub longest-broken : every p (chainBy parent b) ≡ false → false ≡ longestBy parent q last b
     unfolding longestBy both
-    longest-broken h = rw (← sound-same p q same b l, h)
+    longest-broken h = rw (← whole-same b l, h)
 
     -- a sound chain is longest where no block has a longer one
     pub longest-searched : (beat : ℕ) (found : Bool) → every p (chainBy parent b) ≡ true → length (chainBy parent b) ≡ beat
         → found ≡ any (last + 1) (longerBy parent p beat) → not found ≡ longestBy parent q last b
     unfolding longestBy longerBy both
     longest-searched beat found h e f =
-        rw (← sound-same p q same b l, h, e, f, any-same (longerBy parent p beat) (longerBy parent q beat) (last + 1) (λ x k. rw (sound-same p q same x (omega arith))))
+        rw (← whole-same b l, h, e, f, any-same (longerBy parent p beat) (longerBy parent q beat) (last + 1) (λ x k. rw (whole-same x (omega arith))))
 
   module _ (sound : ℕ → Bool) (beat : ℕ) where
     -- a block up to the length to beat is the last of no longer chain
@@ -124,7 +178,7 @@ module _ (parent : ℕ → ℕ) (down : Down parent) where
     unfolding left
     left-next climbed at h s =
         let e : climbed + length (chainBy parent at) ≡ climbed + 1 + length (chainBy parent (parent at)) = omega (arith, length-by-step at h) in
-        rw (e, sound-next sound at h s)
+        rw (e, sound-next sound at _ _ (chain-by-step parent down at h) s)
 
     -- a climb ends where what is left is too short
     pub left-short : (climbed at : ℕ) → climbed + at ≤ beat → left parent sound beat climbed at ≡ false
@@ -135,7 +189,7 @@ module _ (parent : ℕ → ℕ) (down : Down parent) where
     -- or at a block that is not sound
     pub left-broken : (climbed at : ℕ) → 0 < at → sound at ≡ false → left parent sound beat climbed at ≡ false
     unfolding left both
-    left-broken climbed at h s = rw (sound-broken sound at h s)
+    left-broken climbed at h s = rw (sound-broken sound at _ _ (chain-by-step parent down at h) s)
 
     -- or at genesis, with more blocks than were to beat, or, with any block passed, at a block whose chain is sound and as long as the one to
     -- beat: the chain is longer
@@ -152,7 +206,3 @@ module _ (parent : ℕ → ℕ) (down : Down parent) where
         let passed : 0 < climbed = ltb-true 0 climbed (both-right (eqb at b) (ltb 0 climbed) known) in
         rw (here, s) (lt-ltb beat (climbed + length (chainBy parent b)) (omega arith)))
         (either-cases (eqb at 0) (both (eqb at b) (ltb 0 climbed)) t)
-
--- a climb that has come to no such block is above genesis
-pub unmet-above : (b climbed at : ℕ) → either (eqb at 0) (both (eqb at b) (ltb 0 climbed)) ≡ false → 0 < at
-unmet-above b climbed at t = omega (arith, eqb-false at 0 (either-false-left (eqb at 0) (both (eqb at b) (ltb 0 climbed)) t))

@@ -2,7 +2,7 @@
 -- Searching.antt says what they are in the rules' terms. Each takes the columns or functions that the code reads.
 use Prim.Native.Nat.{ℕ, _+_}
 use mathlib.Core.Bool.{Bool, not}
-use mathlib.Core.List.{List}
+use mathlib.Core.List.{List, [], _∷_}
 use lib.Dec.{eqb, ltb}
 use lib.ListN.{length, getD}
 use Rattle.quorum.specs.Enough.{enough}
@@ -41,6 +41,11 @@ soundIn places signers subjects parents epochs count n last q =
 unfoldable pub soundFrom : (sets parents epochs : List ℕ) → (last n : ℕ) → ℕ → Bool
 soundFrom sets parents epochs last n =
     soundBy (parentIn parents last) (epochIn epochs last) (λ x. enough (tally n (λ s. eqb (digit 2 (getD sets x 0) s) 1)) n)
+
+-- the blocks of a chain above block `base`; all where it is not on the chain
+unfoldable pub above : (base : ℕ) → (chain : List ℕ) → List ℕ
+above base [] = []
+above base (x ∷ older) = choose (eqb x base) [] (x ∷ above base older)
 
 -- what a climb of a chain meets: whether it is of sound blocks alone, and then their number, else 0
 unfoldable pub climbed : (sound : ℕ → Bool) → (chain : List ℕ) → Climb

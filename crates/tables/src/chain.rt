@@ -1,7 +1,7 @@
 // Chains of blocks, and the search for a longer one.
 ghost use mathlib.Core.Path.{_≡_};
 ghost use mathlib.Core.Bool.{true};
-ghost use Prim.Native.Nat.{_+_, min};
+ghost use Prim.Native.Nat.{_+_, _≤_, _<_, min};
 ghost use lib.Dec.{eqb, ltb};
 ghost use lib.ListN.{length};
 ghost use Rattle.quorum.specs.Enough.{enough};
@@ -10,11 +10,15 @@ ghost use Rattle.words.specs.Sums.{tally};
 ghost use Rattle.words.specs.Digits.{digit};
 ghost use Rattle.tables.specs.Blocks.{parentIn};
 ghost use Rattle.tables.specs.Chains.{chainBy};
-ghost use Rattle.tables.specs.Searches.{soundIn, soundFrom, climbed, longerBy, longestBy};
+ghost use Rattle.tables.specs.Searches.{soundIn, soundFrom, above, climbed, longerBy, longestBy};
 use crate::notary::gather;
+use crate::notary::signers_of;
 use crate::scan::epoch_at;
 use crate::scan::message_count;
 use crate::scan::parent_at;
+
+// So many blocks of a chain are tested one by one, before the signers of all blocks are gathered.
+const SINGLE: u8 = 2;
 
 // The length of block b's chain, genesis not counted.
 pub fn length_of<'a>(parents: &'a [u8; 256], last: u8, b: u8) -> u8
@@ -37,13 +41,20 @@ fn is_sound(set: u32, n: u8, below: u16, epoch: u16) -> bool
     (below < epoch) & quorum::is_enough(set, n)
 }
 
-// What a climb from a block to genesis meets: whether every block of the chain is sound, and then how many they are, else 0.
+// A climb ends at genesis, or at the block that it is not to go below.
+fn is_end(at: u8, base: u8) -> bool
+    ensures { λ r. ⌜ r ≡ either (eqb at 0) (eqb at base) ⌝ }
+{
+    (at == 0) | (at == base)
+}
+
+// What a climb from a block meets: whether every block on its way is sound, and then how many they are, else 0.
 pub(crate) struct Climb {
     pub sound: bool,
     pub length: u8,
 }
 
-// Climbs block b's chain, up to genesis or to the first block that is not sound.
+// Climbs block b's chain down to the base, or to genesis where it has no such block, or to the first block that is not sound.
 fn climb_chain<'a>(
     sets: &'a [u32; 256],
     parents: &'a [u8; 256],
@@ -51,13 +62,14 @@ fn climb_chain<'a>(
     last: u8,
     n: u8,
     b: u8,
+    base: u8,
 ) -> Climb
-    ensures { λ r. ⌜ r ≡ climbed (soundFrom (now (sets .entry)) (now (parents .entry)) (now (epochs .entry)) last n) (chainBy (parentIn (now (parents .entry)) last) b) ⌝ }
+    ensures { λ r. ⌜ r ≡ climbed (soundFrom (now (sets .entry)) (now (parents .entry)) (now (epochs .entry)) last n) (above base (chainBy (parentIn (now (parents .entry)) last) b)) ⌝ }
 {
     let mut climbed = 0;
     let mut at = b;
     let mut epoch = epoch_at(epochs, last, b);
-    while at > 0 {
+    while !is_end(at, base) {
         let parent = parent_at(parents, last, at);
         let below = epoch_at(epochs, last, parent);
         if !is_sound(sets[at as usize], n, below, epoch) {
@@ -130,8 +142,8 @@ fn office_count(n: u8) -> u8
     if n < 32 { n } else { 32 }
 }
 
-// The chain of block b is notarised in office q's view.
-pub fn is_notarised<'a>(
+// Block b, which is not genesis, is sound in office q's view.
+fn is_sound_in<'a>(
     n: u8,
     last: u8,
     count: usize,
@@ -143,11 +155,61 @@ pub fn is_notarised<'a>(
     q: u8,
     b: u8,
 ) -> bool
-    ensures { λ r. ⌜ r ≡ every (soundIn (now (places .entry)) (now (signers .entry)) (now (subjects .entry)) (now (parents .entry)) (now (epochs .entry)) (min count 1024) (min n 32) last q) (chainBy (parentIn (now (parents .entry)) last) b) ⌝ }
+    requires { ⌜ (count ≤ 1024) × (n ≤ 32) × (0 < b) ⌝ }
+    ensures { λ r. ⌜ r ≡ soundIn (now (places .entry)) (now (signers .entry)) (now (subjects .entry)) (now (parents .entry)) (now (epochs .entry)) count n last q b ⌝ }
+{
+    let parent = parent_at(parents, last, b);
+    let below = epoch_at(epochs, last, parent);
+    let epoch = epoch_at(epochs, last, b);
+    let set = signers_of(places, signers, subjects, count, q, b);
+    is_sound(set, n, below, epoch)
+}
+
+// Every block of block b's chain above the base is sound in office q's view; where the chain does not have that block, every block of it: it is
+// then notarised there. Whoever knows the base's chain to be notarised learns whether b's is. The newest blocks are tested one by one: they are
+// those that lack signers, and often all that there are above the base.
+pub fn is_notarised<'a>(
+    n: u8,
+    last: u8,
+    count: usize,
+    places: &'a [u64; 1024],
+    signers: &'a [u8; 1024],
+    subjects: &'a [u8; 1024],
+    parents: &'a [u8; 256],
+    epochs: &'a [u16; 256],
+    q: u8,
+    b: u8,
+    base: u8,
+) -> bool
+    ensures { λ r. ⌜ r ≡ every (soundIn (now (places .entry)) (now (signers .entry)) (now (subjects .entry)) (now (parents .entry)) (now (epochs .entry)) (min count 1024) (min n 32) last q) (above base (chainBy (parentIn (now (parents .entry)) last) b)) ⌝ }
 {
     let offices = office_count(n);
-    let sets = gather(places, signers, subjects, message_count(count), q);
-    let up = climb_chain(&sets, parents, epochs, last, offices, b);
+    let sent = message_count(count);
+    let mut at = b;
+    let mut tested = 0;
+    while tested < SINGLE {
+        if is_end(at, base) {
+            return true;
+        }
+        if !is_sound_in(
+            offices,
+            last,
+            sent,
+            places,
+            signers,
+            subjects,
+            parents,
+            epochs,
+            q,
+            at,
+        ) {
+            return false;
+        }
+        at = parent_at(parents, last, at);
+        tested += 1;
+    }
+    let sets = gather(places, signers, subjects, sent, q);
+    let up = climb_chain(&sets, parents, epochs, last, offices, at, base);
     up.sound
 }
 
@@ -168,7 +230,7 @@ pub fn is_longest<'a>(
 {
     let offices = office_count(n);
     let sets = gather(places, signers, subjects, message_count(count), q);
-    let up = climb_chain(&sets, parents, epochs, last, offices, b);
+    let up = climb_chain(&sets, parents, epochs, last, offices, b, 0);
     if !up.sound {
         return false;
     }

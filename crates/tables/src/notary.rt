@@ -1,12 +1,14 @@
 // Who signed each block, in an office's view.
 ghost use mathlib.Core.Path.{_≡_};
-ghost use Prim.Native.Nat.{ℕ, _≤_, _<_};
+ghost use Prim.Native.Nat.{ℕ, _+_, _≤_, _<_};
 ghost use lib.Dec.{eqb, ltb};
 ghost use lib.ListN.{getD, set};
-ghost use Rattle.words.specs.Tests.{choose, both, either};
+ghost use Rattle.words.specs.Tests.{choose, both, either, any};
 ghost use Rattle.words.specs.Digits.{digit};
 ghost use Rattle.tables.specs.Messages.{view};
 ghost use Rattle.tables.specs.Searches.{signedIn, setOf};
+use crate::scan::CHUNK;
+use crate::scan::chunk_size;
 
 // One message more: where it is in office q's view, its last stage, its signer is among the signers of its block. A signer from 32 up is no
 // office, and is left out. A block's number is below 256, which a caller that has it from a column learns here.
@@ -41,4 +43,82 @@ pub(crate) fn gather<'a>(
         low += 1;
     }
     sets
+}
+
+// The set with one more message's signer, where the message is about block b and in office q's view, its last stage.
+fn with_signer(set: u32, place: u64, q: u8, signer: u8, subject: u8, b: u8) -> u32
+    ensures { λ r. ⌜ r ≡ choose (both (eqb subject b) (eqb (digit 4 place q) view)) (setOf (λ s. either (eqb (digit 2 set s) 1) (eqb signer s))) set ⌝ }
+{
+    if subject != b {
+        return set;
+    }
+    if !words::is_last_stage(place, q) {
+        return set;
+    }
+    words::with_member(set, signer)
+}
+
+// One of the messages of the chunk that starts at `from` is about block b. No branch in the loop, so that many entries are compared at once.
+fn chunk_about<'a>(subjects: &'a [u8; 1024], from: usize, b: u8) -> bool
+    requires { ⌜ from ≤ 960 ⌝ }
+    ensures { λ r. ⌜ r ≡ any 64 (λ i. eqb (getD (now (subjects .entry)) (from + i) 0) b) ⌝ }
+{
+    let mut found = false;
+    let mut i = 0;
+    while i < CHUNK {
+        found = found | (subjects[from + i] == b);
+        i += 1;
+    }
+    found
+}
+
+// Block b's signers by the messages before the chunk that starts at `from`, with those by the first `size` messages of the chunk. These are
+// looked at one by one only where the chunk has a message about that block at all.
+fn chunk_signers<'a>(
+    places: &'a [u64; 1024],
+    signers: &'a [u8; 1024],
+    subjects: &'a [u8; 1024],
+    from: usize,
+    size: usize,
+    q: u8,
+    b: u8,
+    set: u32,
+) -> u32
+    requires { ⌜ (from ≤ 960) × (size ≤ 64) × (set ≡ setOf (λ s. signedIn (now places) (now signers) (now subjects) from q s b)) ⌝ }
+    ensures { λ r. ⌜ r ≡ setOf (λ s. signedIn (now (places .entry)) (now (signers .entry)) (now (subjects .entry)) (from + size) q s b) ⌝ }
+{
+    if !chunk_about(subjects, from, b) {
+        return set;
+    }
+    let mut all = set;
+    let mut i = 0;
+    while i < size {
+        let m = from + i;
+        all = with_signer(all, places[m], q, signers[m], subjects[m], b);
+        i += 1;
+    }
+    all
+}
+
+// The signers of block b in office q's view, as a set of offices: what `gather` gives for that one block. The messages are looked at by chunks.
+pub(crate) fn signers_of<'a>(
+    places: &'a [u64; 1024],
+    signers: &'a [u8; 1024],
+    subjects: &'a [u8; 1024],
+    count: usize,
+    q: u8,
+    b: u8,
+) -> u32
+    requires { ⌜ count ≤ 1024 ⌝ }
+    ensures { λ r. ⌜ r ≡ setOf (λ s. signedIn (now (places .entry)) (now (signers .entry)) (now (subjects .entry)) count q s b) ⌝ }
+{
+    let mut set = 0;
+    let mut k = 0;
+    while CHUNK * k < count {
+        let from = CHUNK * k;
+        let size = chunk_size(from, count);
+        set = chunk_signers(places, signers, subjects, from, size, q, b, set);
+        k += 1;
+    }
+    set
 }

@@ -13,7 +13,7 @@ ghost use Rattle.tables.specs.Searches.{signedIn};
 const MESSAGES: usize = 1024;
 
 // So many of them are looked at together.
-const CHUNK: usize = 64;
+pub(crate) const CHUNK: usize = 64;
 
 // Office q is there and its bit in the trust word is 1.
 pub fn trusted_at(n: u8, trust: u32, q: u8) -> bool
@@ -170,7 +170,7 @@ fn chunk_signed<'a>(
 }
 
 // How many messages the chunk that starts at `from` has: a whole chunk, or what is left of the count.
-fn chunk_size(from: usize, count: usize) -> usize
+pub(crate) fn chunk_size(from: usize, count: usize) -> usize
     requires { ⌜ from ≤ count ⌝ }
     ensures { λ r. ⌜ from + r ≡ min (from + 64) count ⌝ }
 {

@@ -7,6 +7,7 @@ ghost use lib.Dec.{eqb};
 ghost use Rattle.words.specs.Tests.{conj};
 ghost use Rattle.words.specs.Refusals.{first};
 ghost use Rattle.tables.specs.Blocks.{trustedIn, parentIn, epochIn};
+ghost use Rattle.register.specs.Chains.{chainNotarised};
 ghost use Rattle.register.specs.Refusals.{finalises};
 ghost use Rattle.register.specs.Steps.{finalise};
 ghost use Rattle.register.specs.Changes.{whole, answer, finalised};
@@ -26,7 +27,8 @@ fn are_consecutive<'a>(epochs: &'a [u16; 256], last: u8, b: u8, c: u8, d: u8) ->
     (b != 0) & ((c != 0) & ((d != 0) & ((middle == oldest + 1) & (newest == oldest + 2))))
 }
 
-// The condition for finalising, of a trusted office. The messages are read only where the epochs are as they should be.
+// The condition for finalising, of a trusted office in whose view the base's chain is notarised. The messages are read only where the epochs
+// are as they should be.
 fn is_final<'a>(
     head: Head,
     signers: &'a [u8; 1024],
@@ -34,10 +36,11 @@ fn is_final<'a>(
     places: &'a [u64; 1024],
     parents: &'a [u8; 256],
     epochs: &'a [u16; 256],
+    base: u8,
     q: u8,
     b: u8,
 ) -> bool
-    requires { ⌜ (head .n ≤ 32) × (head .count ≤ 1024) × (trustedIn (head .n) (head .trust) q ≡ true) ⌝ }
+    requires { ⌜ (head .n ≤ 32) × (head .count ≤ 1024) × (trustedIn (head .n) (head .trust) q ≡ true) × (chainNotarised (whole head [] (now parents) (now epochs) [] [] (now signers) (now subjects) (now places) []) q base ≡ true) ⌝ }
     ensures { λ r. ⌜ r ≡ finalises (whole head [] (now (parents .entry)) (now (epochs .entry)) [] [] (now (signers .entry)) (now (subjects .entry)) (now (places .entry)) []) q b ⌝ }
 {
     let last = head.last.0;
@@ -58,6 +61,7 @@ fn is_final<'a>(
         epochs,
         q,
         b,
+        base,
     )
 }
 
@@ -69,10 +73,11 @@ fn finalise_refusal<'a>(
     places: &'a [u64; 1024],
     parents: &'a [u8; 256],
     epochs: &'a [u16; 256],
+    base: u8,
     office: Office,
     newest: Block,
 ) -> u8
-    requires { ⌜ (head .n ≤ 32) × (head .count ≤ 1024) ⌝ }
+    requires { ⌜ (head .n ≤ 32) × (head .count ≤ 1024) × (chainNotarised (whole head [] (now parents) (now epochs) [] [] (now signers) (now subjects) (now places) []) (office .0) base ≡ true) ⌝ }
     ensures { λ r. ⌜ r ≡ first (finalise (whole head [] (now (parents .entry)) (now (epochs .entry)) [] [] (now (signers .entry)) (now (subjects .entry)) (now (places .entry)) []) office newest .tests) ⌝ }
 {
     if head.n <= office.0 {
@@ -91,6 +96,7 @@ fn finalise_refusal<'a>(
         places,
         parents,
         epochs,
+        base,
         office.0,
         newest.0,
     ) {
@@ -107,10 +113,11 @@ pub(crate) fn finalise<'a>(
     places: &'a [u64; 1024],
     parents: &'a [u8; 256],
     epochs: &'a [u16; 256],
+    base: u8,
     office: Office,
     newest: Block,
 ) -> Change
-    requires { ⌜ (still .head .n ≤ 32) × (still .head .count ≤ 1024) ⌝ }
+    requires { ⌜ (still .head .n ≤ 32) × (still .head .count ≤ 1024) × (chainNotarised (whole (still .head) [] (now parents) (now epochs) [] [] (now signers) (now subjects) (now places) []) (office .0) base ≡ true) ⌝ }
     ensures { λ r. ⌜ r ≡ answer still (first (finalise (whole (still .head) [] (now (parents .entry)) (now (epochs .entry)) [] [] (now (signers .entry)) (now (subjects .entry)) (now (places .entry)) []) office newest .tests)) (finalised still (office .0) (parentIn (now (parents .entry)) (still .head .last .0) (newest .0))) ⌝ }
 {
     let head = still.head;
@@ -121,6 +128,7 @@ pub(crate) fn finalise<'a>(
         places,
         parents,
         epochs,
+        base,
         office,
         newest,
     );

@@ -2,6 +2,7 @@
 ghost use mathlib.Core.Path.{_≡_};
 ghost use mathlib.Core.List.{[]};
 ghost use Rattle.register.specs.Changes.{whole, stillOf, Judged};
+ghost use Rattle.register.specs.Settled.{AllSettled};
 use crate::change::BlockEntry;
 use crate::change::Change;
 use crate::change::FinalEntry;
@@ -10,6 +11,7 @@ use crate::change::MessageEntry;
 use crate::change::PlaceEntry;
 use crate::fitness;
 use crate::refusal;
+use crate::settled::settled_at;
 use crate::step::Step;
 use crate::steps::advance;
 use crate::steps::bad_send;
@@ -62,7 +64,7 @@ fn unchanged<'a>(
     }
 }
 
-// The change that a step makes of the register of those single numbers and tables.
+// The change that a step makes of the register of those single numbers and tables, where the final blocks of a set of offices are settled.
 pub(crate) fn judge<'a>(
     head: Head,
     leaders: &'a [u8; 256],
@@ -74,8 +76,10 @@ pub(crate) fn judge<'a>(
     subjects: &'a [u8; 1024],
     places: &'a [u64; 1024],
     finals: &'a [u8; 32],
+    settled: u32,
     step: Step,
 ) -> Change
+    requires { ⌜ AllSettled (whole head (now leaders) (now parents) (now epochs) (now payloads) (now votes) (now signers) (now subjects) (now places) (now finals)) settled ⌝ }
     ensures { λ r. ⌜ Judged (whole head (now (leaders .entry)) (now (parents .entry)) (now (epochs .entry)) (now (payloads .entry)) (now (votes .entry)) (now (signers .entry)) (now (subjects .entry)) (now (places .entry)) (now (finals .entry))) step r ⌝ }
 {
     let still = unchanged(
@@ -130,6 +134,7 @@ pub(crate) fn judge<'a>(
             message,
         ),
         Step::Finalise(office, newest) => {
+            let base = settled_at(finals, settled, office.0);
             finalise::finalise(
                 still,
                 signers,
@@ -137,6 +142,7 @@ pub(crate) fn judge<'a>(
                 places,
                 parents,
                 epochs,
+                base,
                 office,
                 newest,
             )

@@ -1,36 +1,50 @@
--- `tables::chain::climb_chain`: at each turn the blocks passed are sound, so the chain is as sound as that of the block reached, and as
--- long as both together.
+-- `tables::chain::climb_chain`: at each turn the blocks passed are sound, so the chain above the base is as sound as that of the block
+-- reached, and as long as both together.
 use borrow.Author.Needs.{needs}
 use Prim.Native.Nat.{ℕ, _+_, _≤_, _<_}
 use mathlib.Core.Path.{_≡_, refl, sym, ap, _∙_}
+use mathlib.Core.Bool.{false}
 use mathlib.Core.List.{List}
 use native.Mathlib.Omega.{arith}
 use borrow.Author.Tests.{not-true, not-false}
+use lib.Dec.{eqb}
 use lib.ListN.{length}
-use Rattle.words.specs.Tests.{every}
+use Rattle.words.specs.Tests.{either, every}
 use Rattle.tables.specs.Blocks.{parentIn, epochIn}
 use Rattle.tables.specs.Chains.{chainBy}
-use Rattle.tables.specs.Searches.{soundFrom}
-use Rattle.tables.proofs.Chains.{chain-by-genesis, parent-in-lt}
-use Rattle.tables.proofs.Searching.{sound-tested, length-by-step, sound-broken, sound-genesis, sound-next, climbed-broken, climbed-whole}
+use Rattle.tables.specs.Searches.{soundFrom, above}
+use Rattle.tables.proofs.Chains.{parent-in-lt}
+use Rattle.tables.proofs.Searching.{unmet-above, sound-tested, sound-broken, sound-next, above-end, above-next, climbed-broken, climbed-whole}
 use Rattle.tables.proofs.chain.climb_chain.Statement.{statement}
 use Rattle.tables.proofs.chain.climb_chain.Tie as tie
 
 abbrev Inv-loop : tie.InvT-loop
-Inv-loop sets parents epochs last n b climbed₀ at₀ epoch₀ climbed at epoch =
+Inv-loop sets parents epochs last n b base climbed₀ at₀ epoch₀ climbed at epoch =
     (climbed + at ≤ b)
     × (epoch ≡ epochIn epochs last at)
-    × (climbed + length (chainBy (parentIn parents last) at) ≡ length (chainBy (parentIn parents last) b))
-    × (every (soundFrom sets parents epochs last n) (chainBy (parentIn parents last) b) ≡ every (soundFrom sets parents epochs last n) (chainBy (parentIn parents last) at))
+    × (climbed + length (above base (chainBy (parentIn parents last) at)) ≡ length (above base (chainBy (parentIn parents last) b)))
+    × (every (soundFrom sets parents epochs last n) (above base (chainBy (parentIn parents last) b)) ≡ every (soundFrom sets parents epochs last n) (above base (chainBy (parentIn parents last) at)))
 
 abbrev μ-loop : tie.MeasureT-loop
-μ-loop sets parents epochs last n b climbed₀ at₀ epoch₀ climbed at epoch = at
+μ-loop sets parents epochs last n b base climbed₀ at₀ epoch₀ climbed at epoch = at
 
 epoch-at-requires : tie.Need-epoch-at-requires Inv-loop μ-loop
 epoch-at-requires c κs = search needs
 
 loop-holds : tie.Need-loop-holds Inv-loop μ-loop
 loop-holds c = (search needs, c .epoch-at .ensures, omega arith, refl)
+
+is-end-requires : tie.Need-is-end-requires Inv-loop μ-loop
+is-end-requires c κs = search needs
+
+-- what the test of a turn tells: the climb is not at its end
+unended : (c : tie.Then1 Inv-loop μ-loop)
+    → either (eqb (c .before .before .loop .at) 0) (eqb (c .before .before .loop .at) (c .before .before .before .before .args .base)) ≡ false
+unended c = sym (c .before .is-end .ensures) ∙ not-true _ (c .if1 .taken)
+
+-- so it is above genesis
+above-genesis : (c : tie.Then1 Inv-loop μ-loop) → 0 < c .before .before .loop .at
+above-genesis c = unmet-above (c .before .before .loop .at) _ (unended c)
 
 parent-at-requires : tie.Need-parent-at-requires Inv-loop μ-loop
 parent-at-requires c κs = search needs
@@ -53,7 +67,7 @@ is-sound-requires c κs = search needs
 -- what the test of a block tells: whether the block reached is sound
 abbrev Tested : (c : tie.After-is-sound Inv-loop μ-loop) → Type 0
 Tested c =
-    let at-loop = c .before .before .before .before .before in
+    let at-loop = c .before .before .before .before .before .before in
     let a = at-loop .before .before .args in
     c .is-sound .result ≡ soundFrom (a .sets .now) (a .parents .now) (a .epochs .now) (a .last) (a .n) (at-loop .loop .at)
 
@@ -61,53 +75,56 @@ tested : (c : tie.After-is-sound Inv-loop μ-loop) → Tested c
 tested c =
     let at-below = c .before .before in
     let at-parent = at-below .before in
-    let turn = at-parent .before .before .loop in
+    let turn = at-parent .before .before .before .loop in
     sound-tested _ _ _ _ _ (turn .at) _ (at-below .epoch-at2 .result) (turn .epoch) _ (c .is-sound .ensures) (at-parent .parent-at .ensures) (at-below .epoch-at2 .ensures) (turn .inv .1)
 
 returns : tie.Need-returns Inv-loop μ-loop
 returns c =
     let at-sound = c .before in
-    let at-loop-test = at-sound .before .before .before .before in
+    let at-if1 = at-sound .before .before .before .before in
     climbed-broken _ _
-    (at-loop-test .before .loop .inv .3
-    ∙ sound-broken _ (parent-in-lt _ _) _ _ (at-loop-test .loop-test .taken) (sym (tested at-sound) ∙ not-true _ (c .if1 .taken)))
+    (at-if1 .before .before .loop .inv .3
+    ∙ sound-broken _ _ _ _ (above-next _ (parent-in-lt _ _) _ _ (unended at-if1)) (sym (tested at-sound) ∙ not-true _ (c .if2 .taken)))
 
 add-climbed : tie.Need-add-climbed Inv-loop μ-loop
-add-climbed c = search needs
+add-climbed c = omega (arith, above-genesis (c .before .before .before .before .before))
 
 loop-less : tie.Need-loop-less Inv-loop μ-loop
 loop-less c =
     let at-parent = c .before .before .before .before in
-    rw (at-parent .parent-at .ensures) (parent-in-lt _ _ _ (at-parent .before .loop-test .taken))
+    rw (at-parent .parent-at .ensures) (parent-in-lt _ _ _ (above-genesis (at-parent .before)))
 
 loop-again : tie.Need-loop-again Inv-loop μ-loop
 loop-again c =
     let at-sound = c .before in
     let at-below = at-sound .before .before in
     let at-parent = at-below .before in
-    let at-loop-test = at-parent .before in
-    let at-loop = at-loop-test .before in
+    let at-if1 = at-parent .before in
+    let at-loop = at-if1 .before .before in
+    let a = at-loop .before .before .args in
+    let parents : List ℕ = a .parents .now in
+    let last : ℕ = a .last in
+    let base : ℕ = a .base in
+    let turn = at-loop .loop in
+    let at : ℕ = turn .at in
+    let up : at-parent .parent-at .result ≡ parentIn parents last at = at-parent .parent-at .ensures in
+    let step = above-next (parentIn parents last) (parent-in-lt parents last) base at (unended at-if1) in (
+      omega (arith, up, parent-in-lt parents last at (above-genesis at-if1)),
+      at-below .epoch-at2 .ensures,
+      rw up (omega (arith, ap length step)),
+      rw up (turn .inv .3 ∙ sound-next _ at _ _ step (sym (tested at-sound) ∙ not-false _ (c .if2 .left))),
+    )
+
+returns-2 : tie.Need-returns-2 Inv-loop μ-loop
+unfolding every
+returns-2 c =
+    let at-loop = c .before .before in
     let a = at-loop .before .before .args in
     let parents : List ℕ = a .parents .now in
     let last : ℕ = a .last in
     let turn = at-loop .loop in
-    let at : ℕ = turn .at in
-    let above : 0 < at = at-loop-test .loop-test .taken in
-    let up : at-parent .parent-at .result ≡ parentIn parents last at = at-parent .parent-at .ensures in (
-      omega (arith, up, parent-in-lt parents last at above),
-      at-below .epoch-at2 .ensures,
-      rw up (omega (arith, length-by-step (parentIn parents last) (parent-in-lt parents last) at above)),
-      rw up (turn .inv .3 ∙ sound-next (parentIn parents last) (parent-in-lt parents last) _ at above (sym (tested at-sound) ∙ not-false _ (c .if1 .left))),
-    )
-
-returns-2 : tie.Need-returns-2 Inv-loop μ-loop
-returns-2 c =
-    let parents : List ℕ = c .before .before .before .args .parents .now in
-    let last : ℕ = c .before .before .before .args .last in
-    let turn = c .before .loop in
-    let end : turn .at ≡ 0 = omega arith in
-    let none : length (chainBy (parentIn parents last) 0) ≡ 0 = ap length (chain-by-genesis (parentIn parents last)) in
-    climbed-whole _ _ _ (rw end at (turn .inv .3) ∙ sound-genesis _ _) (omega (arith, rw end at (turn .inv .2)))
+    let end = above-end (parentIn parents last) (parent-in-lt parents last) (a .base) (turn .at) (sym (c .before .is-end .ensures) ∙ not-false _ (c .if1 .left)) in
+    climbed-whole _ _ _ (rw end at (turn .inv .3)) (omega (arith, rw end at (turn .inv .2)))
 
 pub climb-chain-spec : {M : Type 1} → statement M
 climb-chain-spec =
@@ -117,6 +134,7 @@ climb-chain-spec =
     μ-loop
     epoch-at-requires
     loop-holds
+    is-end-requires
     parent-at-requires
     epoch-at-requires-2
     cast-is-sound

@@ -73,7 +73,7 @@ is-met-requires c κs = search needs
 above-genesis : (c : tie.Else1 Inv-climb μ-climb Inv-walk μ-walk) → 0 < c .before .before .before .climb .at
 above-genesis c =
     let at-climb = c .before .before .before in
-    unmet-above (at-climb .before .before .before .before .args .b) (at-climb .climb .climbed) (at-climb .climb .at) (sym (c .before .is-met .ensures) ∙ c .if1 .left)
+    unmet-above (at-climb .climb .at) _ (sym (c .before .is-met .ensures) ∙ c .if1 .left)
 
 parent-at-requires : tie.Need-parent-at-requires Inv-climb μ-climb Inv-walk μ-walk
 parent-at-requires c κs = search needs

@@ -82,7 +82,7 @@ is-final-requires : tie.Need-is-final-requires
 unfolding given trusted whole
 is-final-requires c κs =
     let s = start-3 c in
-    (s .pre .0, s .pre .1, safe (c .before) ∙ not-false _ (c .if3 .left))
+    (s .pre .0, s .pre .1, safe (c .before) ∙ not-false _ (c .if3 .left), s .pre .2)
 
 -- whether the condition is unmet, as it was found
 unmet : (c : tie.After-is-final) → notFinal (given (start-3 (c .before))) (start-3 (c .before) .args .office .0) (start-3 (c .before) .args .newest .0) ≡ not (c .is-final .result)

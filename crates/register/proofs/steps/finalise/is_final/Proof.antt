@@ -1,13 +1,14 @@
 -- `is_final` makes the tests of the blocks and their epochs, and then asks for the chain.
 use borrow.Author.Needs.{needs}
 use Prim.Native.Nat.{ℕ}
+use mathlib.Core.Path.{sym, _∙_}
 use mathlib.Core.List.{[]}
 use borrow.Author.Tests.{not-true, not-false}
 use Rattle.words.specs.Tests.{both}
 use Rattle.register.specs.declared.table.Register.{Register}
 use Rattle.register.specs.Tables.{trusted, parentOf, epochOf}
 use Rattle.register.specs.Changes.{whole}
-use Rattle.register.proofs.Searching.{chain-notarised-by}
+use Rattle.register.proofs.Searching.{notarised-above}
 use Rattle.register.proofs.Testing.{finalises-by}
 use Rattle.register.proofs.steps.finalise.is_final.Statement.{statement}
 use Rattle.register.proofs.steps.finalise.is_final.Tie as tie
@@ -51,8 +52,8 @@ returns-2 c =
     let r : Register = whole (a .head) [] (a .parents .now) (a .epochs .now) [] [] (a .signers .now) (a .subjects .now) (a .places .now) [] in
     let q : ℕ = a .q in
     let b : ℕ = a .b in
-    rw (finalises-by r q b _ _ (at-parent-at .parent-at .ensures) (at-parent-at2 .parent-at2 .ensures), ← (at-are-consecutive .are-consecutive .ensures), not-false (at-are-consecutive .are-consecutive .result) (at-if1 .if1 .left), chain-notarised-by r (entry .pre .1) (entry .pre .0) q (entry .pre .2) b)
-    (c .is-notarised .ensures)
+    rw (finalises-by r q b _ _ (at-parent-at .parent-at .ensures) (at-parent-at2 .parent-at2 .ensures), ← (at-are-consecutive .are-consecutive .ensures), not-false (at-are-consecutive .are-consecutive .result) (at-if1 .if1 .left))
+    (c .is-notarised .ensures ∙ sym (notarised-above r (entry .pre .1) (entry .pre .0) q (entry .pre .2) (a .base) b (entry .pre .3)))
 
 pub is-final-spec : {M : Type 1} → statement M
 is-final-spec =

@@ -11,7 +11,8 @@ use Rattle.register.specs.declared.table.Register.{Register}
 use Rattle.register.specs.Fitness.{countsFit}
 use Rattle.register.specs.Changes.{whole, headOf, stillOf, Judged}
 use Rattle.register.proofs.FitnessLaws.{Counts}
-use Rattle.register.proofs.Judgements.{still-counts, still-last, judged-unfit, judged-propose, judged-vote, judged-register, judged-finalise, judged-deliver, judged-bad-send, judged-draft, judged-advance}
+use Rattle.register.proofs.Judgements.{still-counts, still-last, still-notarised, judged-unfit, judged-propose, judged-vote, judged-register, judged-finalise, judged-deliver, judged-bad-send, judged-draft, judged-advance}
+use Rattle.register.proofs.Settling.{settled-notarised}
 use Rattle.register.proofs.steps.judge.judge.Statement.{statement}
 use Rattle.register.proofs.steps.judge.judge.Tie as tie
 
@@ -89,10 +90,21 @@ enter-requires c κs =
 enum-known-step-4 : tie.Need-enum-known-step-4
 enum-known-step-4 c = search needs
 
+settled-at-requires : tie.Need-settled-at-requires
+settled-at-requires c κs = search needs
+
 finalise-requires : tie.Need-finalise-requires
+unfolding given whole
 finalise-requires c κs =
-    let k = counts (c .before .before .before) in
-    (k .offices .1, k .messages)
+    let at-if1 = c .before .before .before .before in
+    let at-unchanged = at-if1 .before .before in
+    let s = at-unchanged .before in
+    let k = counts at-if1 in (
+      k .offices .1,
+      k .messages,
+      still-notarised (given s) (still at-unchanged) _ _ (is-still at-unchanged)
+          (rw (c .settled-at .ensures) (settled-notarised (given s) (s .args .settled) _ (s .pre))),
+    )
 
 enum-known-step-5 : tie.Need-enum-known-step-5
 enum-known-step-5 c = search needs
@@ -154,7 +166,7 @@ returns-4 c =
 returns-5 : tie.Need-returns-5
 unfolding given whole
 returns-5 c =
-    let at-step = c .before .before in
+    let at-step = c .before .before .before in
     let at-if1 = at-step .before .before in
     let at-unchanged = at-if1 .before .before in
     subst⁻¹ (λ (s : Step). Judged (given (at-unchanged .before)) s (c .finalise .result)) (at-step .step4 .given .1)
@@ -210,6 +222,7 @@ judge-spec =
     enum-known-step-3
     enter-requires
     enum-known-step-4
+    settled-at-requires
     finalise-requires
     enum-known-step-5
     deliver-requires
