@@ -3,7 +3,7 @@ use Prim.Native.Nat.{ℕ, zero, suc, _+_, _*_, _-_, _/_, _%_, _^_, _≤_, _<_}
 use mathlib.Core.Path.{_≡_, ap, _∙_}
 use mathlib.Core.Bool.{Bool, true, false}
 use mathlib.Core.List.{List, [], _∷_, _++_}
-use native.Mathlib.Nat.{add-assoc, add-suc, add-zero, pow-succ', suc-add, zero-add}
+use native.Mathlib.Nat.{add-assoc, add-suc, add-zero, one-le-pow, pow-succ', suc-add, zero-add}
 use native.Mathlib.Omega.{arith}
 use borrow.Author.Tests.{lt-ltb, le-ltb}
 use lib.Dec.{ltb}
@@ -94,6 +94,22 @@ decimal-short k n h = digits-short 20 k n h
 pub decimal-some : (n : ℕ) → 0 < length (decimal n)
 unfolding decimal digitsBy
 decimal-some n = chosen-size (ltb n 10) (48 + n) (48 + n % 10) (digitsBy 19 (n / 10)) .0
+
+-- a number from 10 ^ k on has more than k digits, where there is room for them
+digits-long : (most k n : ℕ) → k < most → 10 ^ k ≤ n → suc k ≤ length (digitsBy most n)
+unfolding digitsBy choose
+digits-long zero k n room h = absurd (omega arith)
+digits-long (suc most) zero n room h =
+    omega (arith, chosen-size (ltb n 10) (48 + n) (48 + n % 10) (digitsBy most (n / 10)) .0)
+digits-long (suc most) (suc k) n room h =
+    let e : 10 ^ suc k ≡ 10 * 10 ^ k = pow-succ' 10 k in
+    let some : 0 < 10 ^ k = one-le-pow k 10 (omega arith) in
+    rw (le-ltb n 10 (omega arith), length-append) (omega (arith, digits-long most k (n / 10) (omega arith) (omega arith)))
+
+-- a number from 10 ^ k on has more than k digits in decimal
+pub decimal-long : (k n : ℕ) → k < 20 → 10 ^ k ≤ n → suc k ≤ length (decimal n)
+unfolding decimal
+decimal-long k n room h = digits-long 20 k n room h
 
 -- three numbers on a line, which are below powers of ten: how long they are at most
 three-size : (i j k a b c : ℕ) → a < 10 ^ suc i → b < 10 ^ suc j → c < 10 ^ suc k → length (threeNumbers a b c) ≤ i + j + k + 6

@@ -41,17 +41,17 @@ fn write_word(report: &mut [u8], at: usize, word: &[u8]) -> usize
     next
 }
 
-// How many digits a number has.
+// How many digits a number has: it is compared with the powers of ten, up to the greatest that fits into 64 bits.
 fn digits_of(n: usize) -> usize
     ensures { λ r. ⌜ (r ≡ length (decimal n)) × (r ≤ 20) ⌝ }
 {
-    let mut rest = n;
     let mut size = 1;
-    while rest >= 10 {
-        rest = rest / 10;
+    let mut power = 10;
+    while (size < 19) & (power <= n) {
+        power *= 10;
         size += 1;
     }
-    size
+    if power <= n { 20 } else { size }
 }
 
 // Puts one digit at its place.

@@ -11,10 +11,13 @@ use borrow.Author.Tests.{eq-eqb, ne-eqb, eqb-true, eqb-false, lt-ltb, le-ltb, lt
 use lib.Dec.{eqb, ltb}
 use lib.ListN.{length, getD}
 use Rattle.quorum.specs.Enough.{enough}
-use Rattle.words.specs.Digits.{digit}
+use Rattle.quorum.proofs.Enough.{enough-make}
+use Rattle.words.specs.Digits.{digit, fill}
 use Rattle.words.specs.Sums.{tally}
 use Rattle.words.specs.Tests.{choose, both, either, any, every}
 use Rattle.words.proofs.Tests.{any-same, both-left, both-right, both-none, decided, either-cases, either-left, either-false-left, either-false-right}
+use Rattle.words.proofs.Sums.{always, tally-always, tally-ext}
+use Rattle.words.proofs.Digits.{bit-set}
 use Rattle.tables.specs.declared.chain.Climb.{Climb}
 use Rattle.tables.specs.Blocks.{parentIn, epochIn}
 use Rattle.tables.specs.Chains.{chainBy}
@@ -30,6 +33,17 @@ left parent sound beat climbed at = both (every sound (chainBy parent at)) (ltb 
 sound-genesis : (parent : ℕ → ℕ) (sound : ℕ → Bool) → every sound (chainBy parent 0) ≡ true
 unfolding every
 sound-genesis parent sound = rw (chain-by-genesis parent)
+
+-- the word of 32 ones is the set of all 32 offices
+everyone-all : 4294967295 ≡ fill 2 32 (λ s. choose (always s) 1 0)
+unfolding fill choose
+everyone-all = refl
+
+-- everyone is enough, however many offices there are
+pub everyone-enough : (n : ℕ) → n ≤ 32 → enough (tally n (λ s. eqb (digit 2 4294967295 s) 1)) n ≡ true
+everyone-enough n few =
+    let in-it : (s : ℕ) → s < n → eqb (digit 2 4294967295 s) 1 ≡ true = λ s h. rw everyone-all (bit-set 32 always s (omega arith)) in
+    enough-make _ n (omega (arith, tally-ext n (λ s. eqb (digit 2 4294967295 s) 1) always in-it, tally-always n))
 
 -- the test of a block by its set of signers, its own epoch and that of its parent
 pub sound-tested : (sets parents epochs : List ℕ) (last n at parent below epoch : ℕ) (t : Bool)

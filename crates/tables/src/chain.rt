@@ -33,11 +33,18 @@ pub fn length_of<'a>(parents: &'a [u8; 256], last: u8, b: u8) -> u8
     climbed
 }
 
+// Every office: enough signers, however many offices there are.
+const EVERYONE: u32 = 0xFFFF_FFFF;
+
 // A block is sound that has that set of signers and that epoch, where its parent has the epoch below: its epoch is greater, and its signers
-// are enough.
-fn is_sound(set: u32, n: u8, below: u16, epoch: u16) -> bool
+// are enough. One set is known to be enough: the blocks of a chain often have the same signers, which are then not counted again.
+fn is_sound(set: u32, n: u8, below: u16, epoch: u16, known: u32) -> bool
+    requires { ⌜ enough (tally n (λ s. eqb (digit 2 known s) 1)) n ≡ true ⌝ }
     ensures { λ r. ⌜ r ≡ both (ltb below epoch) (enough (tally n (λ s. eqb (digit 2 set s) 1)) n) ⌝ }
 {
+    if set == known {
+        return below < epoch;
+    }
     (below < epoch) & quorum::is_enough(set, n)
 }
 
@@ -64,15 +71,18 @@ fn climb_chain<'a>(
     b: u8,
     base: u8,
 ) -> Climb
+    requires { ⌜ n ≤ 32 ⌝ }
     ensures { λ r. ⌜ r ≡ climbed (soundFrom (now (sets .entry)) (now (parents .entry)) (now (epochs .entry)) last n) (above base (chainBy (parentIn (now (parents .entry)) last) b)) ⌝ }
 {
     let mut climbed = 0;
     let mut at = b;
     let mut epoch = epoch_at(epochs, last, b);
+    let mut known = EVERYONE;
     while !is_end(at, base) {
         let parent = parent_at(parents, last, at);
         let below = epoch_at(epochs, last, parent);
-        if !is_sound(sets[at as usize], n, below, epoch) {
+        let set = sets[at as usize];
+        if !is_sound(set, n, below, epoch, known) {
             return Climb {
                 sound: false,
                 length: 0,
@@ -81,6 +91,7 @@ fn climb_chain<'a>(
         climbed += 1;
         at = parent;
         epoch = below;
+        known = set;
     }
     Climb {
         sound: true,
@@ -107,10 +118,11 @@ fn has_longer<'a>(
     b: u8,
     beat: u8,
 ) -> bool
-    requires { ⌜ (every (soundFrom (now sets) (now parents) (now epochs) last n) (chainBy (parentIn (now parents) last) b) ≡ true) × (length (chainBy (parentIn (now parents) last) b) ≡ beat) ⌝ }
+    requires { ⌜ (n ≤ 32) × (every (soundFrom (now sets) (now parents) (now epochs) last n) (chainBy (parentIn (now parents) last) b) ≡ true) × (length (chainBy (parentIn (now parents) last) b) ≡ beat) ⌝ }
     ensures { λ r. ⌜ r ≡ any (last + 1) (longerBy (parentIn (now (parents .entry)) last) (soundFrom (now (sets .entry)) (now (parents .entry)) (now (epochs .entry)) last n) beat) ⌝ }
 {
     let mut found = false;
+    let mut known = EVERYONE;
     let mut x = beat;
     'walk: while x < last {
         x += 1;
@@ -124,12 +136,14 @@ fn has_longer<'a>(
             }
             let parent = parent_at(parents, last, at);
             let below = epoch_at(epochs, last, parent);
-            if !is_sound(sets[at as usize], n, below, epoch) {
+            let set = sets[at as usize];
+            if !is_sound(set, n, below, epoch, known) {
                 break 'climb;
             }
             climbed += 1;
             at = parent;
             epoch = below;
+            known = set;
         }
     }
     found
@@ -162,7 +176,7 @@ fn is_sound_in<'a>(
     let below = epoch_at(epochs, last, parent);
     let epoch = epoch_at(epochs, last, b);
     let set = signers_of(places, signers, subjects, count, q, b);
-    is_sound(set, n, below, epoch)
+    is_sound(set, n, below, epoch, EVERYONE)
 }
 
 // Every block of block b's chain above the base is sound in office q's view; where the chain does not have that block, every block of it: it is

@@ -1,38 +1,43 @@
 -- `tables::chain::climb_chain`: at each turn the blocks passed are sound, so the chain above the base is as sound as that of the block
--- reached, and as long as both together.
+-- reached, and as long as both together. The known set is everyone at first, and then that of the block passed last: it is enough.
 use borrow.Author.Needs.{needs}
 use Prim.Native.Nat.{ℕ, _+_, _≤_, _<_}
 use mathlib.Core.Path.{_≡_, refl, sym, ap, _∙_}
-use mathlib.Core.Bool.{false}
+use mathlib.Core.Bool.{true, false}
 use mathlib.Core.List.{List}
 use native.Mathlib.Omega.{arith}
 use borrow.Author.Tests.{not-true, not-false}
 use lib.Dec.{eqb}
 use lib.ListN.{length}
+use Rattle.quorum.specs.Enough.{enough}
+use Rattle.words.specs.Digits.{digit}
+use Rattle.words.specs.Sums.{tally}
 use Rattle.words.specs.Tests.{either, every}
+use Rattle.words.proofs.Tests.{both-right}
 use Rattle.tables.specs.Blocks.{parentIn, epochIn}
 use Rattle.tables.specs.Chains.{chainBy}
 use Rattle.tables.specs.Searches.{soundFrom, above}
 use Rattle.tables.proofs.Chains.{parent-in-lt}
-use Rattle.tables.proofs.Searching.{unmet-above, sound-tested, sound-broken, sound-next, above-end, above-next, climbed-broken, climbed-whole}
+use Rattle.tables.proofs.Searching.{everyone-enough, unmet-above, sound-tested, sound-broken, sound-next, above-end, above-next, climbed-broken, climbed-whole}
 use Rattle.tables.proofs.chain.climb_chain.Statement.{statement}
 use Rattle.tables.proofs.chain.climb_chain.Tie as tie
 
 abbrev Inv-loop : tie.InvT-loop
-Inv-loop sets parents epochs last n b base climbed₀ at₀ epoch₀ climbed at epoch =
+Inv-loop sets parents epochs last n b base climbed₀ at₀ epoch₀ known₀ climbed at epoch known =
     (climbed + at ≤ b)
     × (epoch ≡ epochIn epochs last at)
     × (climbed + length (above base (chainBy (parentIn parents last) at)) ≡ length (above base (chainBy (parentIn parents last) b)))
     × (every (soundFrom sets parents epochs last n) (above base (chainBy (parentIn parents last) b)) ≡ every (soundFrom sets parents epochs last n) (above base (chainBy (parentIn parents last) at)))
+    × (enough (tally n (λ s. eqb (digit 2 known s) 1)) n ≡ true)
 
 abbrev μ-loop : tie.MeasureT-loop
-μ-loop sets parents epochs last n b base climbed₀ at₀ epoch₀ climbed at epoch = at
+μ-loop sets parents epochs last n b base climbed₀ at₀ epoch₀ known₀ climbed at epoch known = at
 
 epoch-at-requires : tie.Need-epoch-at-requires Inv-loop μ-loop
 epoch-at-requires c κs = search needs
 
 loop-holds : tie.Need-loop-holds Inv-loop μ-loop
-loop-holds c = (search needs, c .epoch-at .ensures, omega arith, refl)
+loop-holds c = (search needs, c .epoch-at .ensures, omega arith, refl, everyone-enough _ (c .before .pre))
 
 is-end-requires : tie.Need-is-end-requires Inv-loop μ-loop
 is-end-requires c κs = search needs
@@ -52,17 +57,17 @@ parent-at-requires c κs = search needs
 epoch-at-requires-2 : tie.Need-epoch-at-requires-2 Inv-loop μ-loop
 epoch-at-requires-2 c κs = search needs
 
-cast-is-sound : tie.Need-cast-is-sound Inv-loop μ-loop
-cast-is-sound c = search needs
+cast-set : tie.Need-cast-set Inv-loop μ-loop
+cast-set c = search needs
 
-mul-is-sound : tie.Need-mul-is-sound Inv-loop μ-loop
-mul-is-sound c = search needs
+mul-set : tie.Need-mul-set Inv-loop μ-loop
+mul-set c = search needs
 
-element-copy-out-is-sound : tie.Need-element-copy-out-is-sound Inv-loop μ-loop
-element-copy-out-is-sound c = search needs
+element-copy-out-set : tie.Need-element-copy-out-set Inv-loop μ-loop
+element-copy-out-set c = search needs
 
 is-sound-requires : tie.Need-is-sound-requires Inv-loop μ-loop
-is-sound-requires c κs = search needs
+is-sound-requires c κs = c .before .before .before .before .before .loop .inv .4
 
 -- what the test of a block tells: whether the block reached is sound
 abbrev Tested : (c : tie.After-is-sound Inv-loop μ-loop) → Type 0
@@ -113,6 +118,7 @@ loop-again c =
       at-below .epoch-at2 .ensures,
       rw up (omega (arith, ap length step)),
       rw up (turn .inv .3 ∙ sound-next _ at _ _ step (sym (tested at-sound) ∙ not-false _ (c .if2 .left))),
+      both-right _ _ (sym (at-sound .is-sound .ensures) ∙ not-false _ (c .if2 .left)),
     )
 
 returns-2 : tie.Need-returns-2 Inv-loop μ-loop
@@ -137,9 +143,9 @@ climb-chain-spec =
     is-end-requires
     parent-at-requires
     epoch-at-requires-2
-    cast-is-sound
-    mul-is-sound
-    element-copy-out-is-sound
+    cast-set
+    mul-set
+    element-copy-out-set
     is-sound-requires
     returns
     add-climbed

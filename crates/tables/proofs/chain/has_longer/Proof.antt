@@ -1,18 +1,22 @@
 -- `tables::chain::has_longer`: at each turn of the walk no block up to x has a longer chain; at each turn of a climb from x, what is left of
--- the climb decides whether x has.
+-- the climb decides whether x has. The known set is everyone at first, and then that of the sound block passed last: it is enough.
 use borrow.Author.Needs.{needs}
 use Prim.Native.Nat.{ℕ, _+_, _-_, _≤_, _<_}
 use mathlib.Core.Path.{_≡_, refl, sym, _∙_}
-use mathlib.Core.Bool.{Bool, false}
+use mathlib.Core.Bool.{Bool, true, false}
 use mathlib.Core.List.{List}
 use native.Mathlib.Omega.{arith}
 use borrow.Author.Count.{below-more}
 use borrow.Author.Tests.{not-true, not-false}
-use Rattle.words.proofs.Tests.{any-fails, any-make}
+use lib.Dec.{eqb}
+use Rattle.quorum.specs.Enough.{enough}
+use Rattle.words.specs.Digits.{digit}
+use Rattle.words.specs.Sums.{tally}
+use Rattle.words.proofs.Tests.{any-fails, any-make, both-right}
 use Rattle.tables.specs.Blocks.{parentIn, epochIn}
 use Rattle.tables.specs.Searches.{soundFrom, longerBy}
 use Rattle.tables.proofs.Chains.{parent-in-lt}
-use Rattle.tables.proofs.Searching.{sound-tested, left, left-start, left-next, left-short, left-broken, left-met, unmet-above, longer-past}
+use Rattle.tables.proofs.Searching.{everyone-enough, sound-tested, left, left-start, left-next, left-short, left-broken, left-met, unmet-above, longer-past}
 use Rattle.tables.proofs.chain.has_longer.Statement.{statement}
 use Rattle.tables.proofs.chain.has_longer.Tie as tie
 
@@ -21,25 +25,29 @@ abbrev Longer : (sets parents epochs : List ℕ) → (last n beat : ℕ) → ℕ
 Longer sets parents epochs last n beat = longerBy (parentIn parents last) (soundFrom sets parents epochs last n) beat
 
 abbrev Inv-climb : tie.InvT-climb
-Inv-climb sets parents epochs last n b beat found₀ x climbed₀ at₀ epoch₀ found climbed at epoch =
+Inv-climb sets parents epochs last n b beat found₀ known₀ x climbed₀ at₀ epoch₀ found known climbed at epoch =
     (climbed + at ≤ x)
     × (epoch ≡ epochIn epochs last at)
     × (found ≡ false)
     × ((k : ℕ) → k < x → Longer sets parents epochs last n beat k ≡ false)
     × (Longer sets parents epochs last n beat x ≡ left (parentIn parents last) (soundFrom sets parents epochs last n) beat climbed at)
+    × (enough (tally n (λ s. eqb (digit 2 known s) 1)) n ≡ true)
 
 abbrev μ-climb : tie.MeasureT-climb
-μ-climb sets parents epochs last n b beat found₀ x climbed₀ at₀ epoch₀ found climbed at epoch = at
+μ-climb sets parents epochs last n b beat found₀ known₀ x climbed₀ at₀ epoch₀ found known climbed at epoch = at
 
 abbrev Inv-walk : tie.InvT-walk
-Inv-walk sets parents epochs last n b beat found₀ x₀ found x =
-    (beat ≤ x) × (found ≡ false) × ((k : ℕ) → k < x + 1 → Longer sets parents epochs last n beat k ≡ false)
+Inv-walk sets parents epochs last n b beat found₀ known₀ x₀ found known x =
+    (beat ≤ x)
+    × (found ≡ false)
+    × ((k : ℕ) → k < x + 1 → Longer sets parents epochs last n beat k ≡ false)
+    × (enough (tally n (λ s. eqb (digit 2 known s) 1)) n ≡ true)
 
 abbrev μ-walk : tie.MeasureT-walk
-μ-walk sets parents epochs last n b beat found₀ x₀ found x = last - x
+μ-walk sets parents epochs last n b beat found₀ known₀ x₀ found known x = last - x
 
 walk-holds : tie.Need-walk-holds Inv-climb μ-climb Inv-walk μ-walk
-walk-holds c = (search needs, refl, λ k l. longer-past _ (parent-in-lt _ _) _ _ k (omega arith))
+walk-holds c = (search needs, refl, λ k l. longer-past _ (parent-in-lt _ _) _ _ k (omega arith), everyone-enough _ (c .pre .0))
 
 add-x : tie.Need-add-x Inv-climb μ-climb Inv-walk μ-walk
 add-x c = search needs
@@ -50,7 +58,7 @@ epoch-at-requires c κs = search needs
 climb-holds : tie.Need-climb-holds Inv-climb μ-climb Inv-walk μ-walk
 climb-holds c =
     let turn = c .before .before .walk in
-    (search needs, c .epoch-at .ensures, turn .inv .1, turn .inv .2, left-start _ (parent-in-lt _ _) _ _ _)
+    (search needs, c .epoch-at .ensures, turn .inv .1, turn .inv .2, left-start _ (parent-in-lt _ _) _ _ _, turn .inv .3)
 
 add-climb : tie.Need-add-climb Inv-climb μ-climb Inv-walk μ-walk
 add-climb c = search needs
@@ -64,6 +72,7 @@ walk-again c =
       omega arith,
       turn .inv .2,
       below-more _ _ (turn .inv .3) (turn .inv .4 ∙ left-short _ (parent-in-lt _ _) _ _ _ _ (c .climb-test .left)),
+      turn .inv .5,
     )
 
 is-met-requires : tie.Need-is-met-requires Inv-climb μ-climb Inv-walk μ-walk
@@ -81,17 +90,17 @@ parent-at-requires c κs = search needs
 epoch-at-requires-2 : tie.Need-epoch-at-requires-2 Inv-climb μ-climb Inv-walk μ-walk
 epoch-at-requires-2 c κs = search needs
 
-cast-is-sound : tie.Need-cast-is-sound Inv-climb μ-climb Inv-walk μ-walk
-cast-is-sound c = search needs
+cast-set : tie.Need-cast-set Inv-climb μ-climb Inv-walk μ-walk
+cast-set c = search needs
 
-mul-is-sound : tie.Need-mul-is-sound Inv-climb μ-climb Inv-walk μ-walk
-mul-is-sound c = search needs
+mul-set : tie.Need-mul-set Inv-climb μ-climb Inv-walk μ-walk
+mul-set c = search needs
 
-element-copy-out-is-sound : tie.Need-element-copy-out-is-sound Inv-climb μ-climb Inv-walk μ-walk
-element-copy-out-is-sound c = search needs
+element-copy-out-set : tie.Need-element-copy-out-set Inv-climb μ-climb Inv-walk μ-walk
+element-copy-out-set c = search needs
 
 is-sound-requires : tie.Need-is-sound-requires Inv-climb μ-climb Inv-walk μ-walk
-is-sound-requires c κs = search needs
+is-sound-requires c κs = c .before .before .before .before .before .before .climb .inv .5
 
 -- what the test of a block tells: whether the block reached is sound
 abbrev Tested : (c : tie.After-is-sound Inv-climb μ-climb Inv-walk μ-walk) → Type 0
@@ -118,6 +127,7 @@ walk-again-2 c =
       omega arith,
       turn .inv .2,
       below-more _ _ (turn .inv .3) (turn .inv .4 ∙ left-broken _ (parent-in-lt _ _) _ _ _ _ (above-genesis at-if1) (sym (tested at-sound) ∙ not-true _ (c .if2 .taken))),
+      turn .inv .5,
     )
 
 add-climbed : tie.Need-add-climbed Inv-climb μ-climb Inv-walk μ-walk
@@ -147,6 +157,7 @@ climb-again c =
       turn .inv .2,
       turn .inv .3,
       rw up (turn .inv .4 ∙ left-next _ (parent-in-lt parents last) _ _ _ at above (sym (tested at-sound) ∙ not-false _ (c .if2 .left))),
+      both-right _ _ (sym (at-sound .is-sound .ensures) ∙ not-false _ (c .if2 .left)),
     )
 
 returns : tie.Need-returns Inv-climb μ-climb Inv-walk μ-walk
@@ -161,7 +172,7 @@ returns-2 c =
     sym
     (any-make _ _ (at-climb .before .before .before .walk .x + 1) (omega arith)
     (turn .inv .4
-    ∙ left-met _ (parent-in-lt _ _) _ _ (entry .args .b) (turn .climbed) (turn .at) (entry .pre .0) (entry .pre .1) (at-met .before .climb-test .taken)
+    ∙ left-met _ (parent-in-lt _ _) _ _ (entry .args .b) (turn .climbed) (turn .at) (entry .pre .1) (entry .pre .2) (at-met .before .climb-test .taken)
     (sym (at-met .is-met .ensures) ∙ c .if1 .taken)))
 
 pub has-longer-spec : {M : Type 1} → statement M
@@ -182,9 +193,9 @@ has-longer-spec =
     is-met-requires
     parent-at-requires
     epoch-at-requires-2
-    cast-is-sound
-    mul-is-sound
-    element-copy-out-is-sound
+    cast-set
+    mul-set
+    element-copy-out-set
     is-sound-requires
     walk-less-2
     walk-again-2

@@ -59,7 +59,9 @@ returns c =
 has-longer-requires : tie.Need-has-longer-requires
 has-longer-requires c κs =
     let at-climb = c .before .before .before in
-    sound-climb _ _ (at-climb .climb-chain .result) (whole at-climb) (not-false _ (c .before .if1 .left))
+    let offices = at-climb .before .before .before .before .office-count in
+    let up = sound-climb _ _ (at-climb .climb-chain .result) (whole at-climb) (not-false _ (c .before .if1 .left)) in
+    (omega (arith, offices .ensures), up .0, up .1)
 
 returns-2 : tie.Need-returns-2
 returns-2 c =

@@ -3,6 +3,7 @@ use borrow.Author.Needs.{needs}
 use mathlib.Core.Path.{_∙_}
 use Rattle.tables.specs.Searches.{soundIn, soundBy}
 use Rattle.tables.proofs.Gathering.{enough-signed}
+use Rattle.tables.proofs.Searching.{everyone-enough}
 use Rattle.tables.proofs.chain.is_sound_in.Statement.{statement}
 use Rattle.tables.proofs.chain.is_sound_in.Tie as tie
 
@@ -19,7 +20,7 @@ signers-of-requires : tie.Need-signers-of-requires
 signers-of-requires c κs = search needs
 
 is-sound-requires : tie.Need-is-sound-requires
-is-sound-requires c κs = search needs
+is-sound-requires c κs = everyone-enough _ (c .before .before .before .before .pre .1)
 
 returns : tie.Need-returns
 unfolding soundIn soundBy
