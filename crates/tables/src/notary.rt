@@ -3,11 +3,12 @@ ghost use mathlib.Core.Path.{_≡_};
 ghost use Prim.Native.Nat.{ℕ, _+_, _≤_, _<_};
 ghost use lib.Dec.{eqb, ltb};
 ghost use lib.ListN.{getD, set};
-ghost use Rattle.words.specs.Tests.{choose, both, either, any};
+ghost use Rattle.words.specs.Tests.{choose, both, either};
 ghost use Rattle.words.specs.Digits.{digit};
 ghost use Rattle.tables.specs.Messages.{view};
 ghost use Rattle.tables.specs.Searches.{signedIn, setOf};
 use crate::scan::CHUNK;
+use crate::scan::chunk_about;
 use crate::scan::chunk_size;
 
 // One message more: where it is in office q's view, its last stage, its signer is among the signers of its block. A signer from 32 up is no
@@ -56,20 +57,6 @@ fn with_signer(set: u32, place: u64, q: u8, signer: u8, subject: u8, b: u8) -> u
         return set;
     }
     words::with_member(set, signer)
-}
-
-// One of the messages of the chunk that starts at `from` is about block b. No branch in the loop, so that many entries are compared at once.
-fn chunk_about<'a>(subjects: &'a [u8; 1024], from: usize, b: u8) -> bool
-    requires { ⌜ from ≤ 960 ⌝ }
-    ensures { λ r. ⌜ r ≡ any 64 (λ i. eqb (getD (now (subjects .entry)) (from + i) 0) b) ⌝ }
-{
-    let mut found = false;
-    let mut i = 0;
-    while i < CHUNK {
-        found = found | (subjects[from + i] == b);
-        i += 1;
-    }
-    found
 }
 
 // Block b's signers by the messages before the chunk that starts at `from`, with those by the first `size` messages of the chunk. These are

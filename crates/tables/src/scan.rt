@@ -119,29 +119,22 @@ pub fn in_history<'a>(
     found
 }
 
-// One of the messages of the chunk that starts at `from` has that signer and that block. No branch in the loop, so that many
-// entries are compared at once.
-fn chunk_says<'a>(
-    signers: &'a [u8; 1024],
-    subjects: &'a [u8; 1024],
-    from: usize,
-    signer: u8,
-    b: u8,
-) -> bool
+// One of the messages of the chunk that starts at `from` is about block b. No branch in the loop, so that many entries are compared at once.
+pub(crate) fn chunk_about<'a>(subjects: &'a [u8; 1024], from: usize, b: u8) -> bool
     requires { ⌜ from ≤ 960 ⌝ }
-    ensures { λ r. ⌜ r ≡ any 64 (λ i. saysIn (now (signers .entry)) (now (subjects .entry)) signer b (from + i)) ⌝ }
+    ensures { λ r. ⌜ r ≡ any 64 (λ i. eqb (getD (now (subjects .entry)) (from + i) 0) b) ⌝ }
 {
     let mut found = false;
     let mut i = 0;
     while i < CHUNK {
-        found = found | says(signers, subjects, signer, b, from + i);
+        found = found | (subjects[from + i] == b);
         i += 1;
     }
     found
 }
 
 // One of the first `size` messages of that chunk is in office q's view, their last stage, and has that signer and that block. The places are read
-// only where the chunk has such a message at all.
+// only where the chunk has a message about that block at all.
 fn chunk_signed<'a>(
     places: &'a [u64; 1024],
     signers: &'a [u8; 1024],
@@ -155,7 +148,7 @@ fn chunk_signed<'a>(
     requires { ⌜ (from ≤ 960) × (size ≤ 64) ⌝ }
     ensures { λ r. ⌜ r ≡ any size (λ i. both (eqb (digit 4 (getD (now (places .entry)) (from + i) 0) q) view) (saysIn (now (signers .entry)) (now (subjects .entry)) signer b (from + i))) ⌝ }
 {
-    if !chunk_says(signers, subjects, from, signer, b) {
+    if !chunk_about(subjects, from, b) {
         return false;
     }
     let mut i = 0;

@@ -7,6 +7,7 @@ use native.Mathlib.Omega.{arith}
 use borrow.Author.Tests.{not-true}
 use Rattle.words.specs.Tests.{any}
 use Rattle.words.proofs.Tests.{and-both, both-right, any-make, any-fewer, any-next}
+use Rattle.tables.specs.Messages.{saysIn}
 use Rattle.tables.proofs.Scans.{signs}
 use Rattle.tables.proofs.scan.chunk_signed.Statement.{statement}
 use Rattle.tables.proofs.scan.chunk_signed.Tie as tie
@@ -17,14 +18,15 @@ Inv-loop places signers subjects from size q signer b i₀ i = (i ≤ size) × (
 abbrev μ-loop : tie.MeasureT-loop
 μ-loop places signers subjects from size q signer b i₀ i = size - i
 
-chunk-says-requires : tie.Need-chunk-says-requires Inv-loop μ-loop
-chunk-says-requires c κs = search needs
+chunk-about-requires : tie.Need-chunk-about-requires Inv-loop μ-loop
+chunk-about-requires c κs = search needs
 
 returns : tie.Need-returns Inv-loop μ-loop
+unfolding saysIn
 returns c =
     sym
-    (any-fewer _ _ _ 64 (c .before .before .pre .1) (λ i h. both-right _ _ h)
-    (sym (c .before .chunk-says .ensures) ∙ not-true _ (c .if1 .taken)))
+    (any-fewer _ _ _ 64 (c .before .before .pre .1) (λ i h. both-right _ _ (both-right _ _ h))
+    (sym (c .before .chunk-about .ensures) ∙ not-true _ (c .if1 .taken)))
 
 loop-holds : tie.Need-loop-holds Inv-loop μ-loop
 unfolding any
@@ -80,7 +82,7 @@ chunk-signed-spec =
     (tie.spec
     Inv-loop
     μ-loop
-    chunk-says-requires
+    chunk-about-requires
     returns
     loop-holds
     add-m

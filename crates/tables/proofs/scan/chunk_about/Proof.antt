@@ -1,4 +1,4 @@
--- `tables::notary::chunk_about`: at each turn i messages of the chunk have been tested.
+-- `tables::scan::chunk_about`: at each turn i messages of the chunk have been tested.
 use borrow.Author.Needs.{needs}
 use Prim.Native.Nat.{_+_, _-_, _≤_}
 use mathlib.Core.Path.{_≡_, refl}
@@ -7,8 +7,8 @@ use lib.Dec.{eqb}
 use lib.ListN.{getD}
 use Rattle.words.specs.Tests.{any}
 use Rattle.words.proofs.Tests.{any-next}
-use Rattle.tables.proofs.notary.chunk_about.Statement.{statement}
-use Rattle.tables.proofs.notary.chunk_about.Tie as tie
+use Rattle.tables.proofs.scan.chunk_about.Statement.{statement}
+use Rattle.tables.proofs.scan.chunk_about.Tie as tie
 
 abbrev Inv-loop : tie.InvT-loop
 Inv-loop subjects from b found₀ i₀ found i = (i ≤ 64) × (found ≡ any i (λ k. eqb (getD subjects (from + k) 0) b))
