@@ -194,8 +194,7 @@ module _ (places signers subjects : List ℕ) (q b : ℕ) where
       (set-ext _ (λ s. signedIn places signers subjects (from + (i + 1)) q s b)
       (λ s l. rw (in-set (λ s. signedIn places signers subjects (from + i) q s b) s l, add-one, add-suc) (joins _ _ _ _)))
 
-  -- where no message of the chunk that starts at `from` is about the block, an office has signed it by the messages before the chunk, or not by the
-  -- chunk's first messages either
+  -- where no message of the chunk that starts at `from` is about the block, the chunk's first messages tell nothing new of a signature on it
   signed-past : (s from size : ℕ) → size ≤ 64 → any 64 (λ i. eqb (getD subjects (from + i) 0) b) ≡ false
       → signedIn places signers subjects from q s b ≡ signedIn places signers subjects (from + size) q s b
   unfolding signedIn saysIn any
