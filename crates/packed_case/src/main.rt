@@ -162,51 +162,55 @@ fn print_wrote(name: &[u8], wrote: Wrote) {
     print(b"\n");
 }
 
-// Tries what the writer refuses, at bit 3 of a buffer of four bytes.
-fn print_refusals() {
-    let mut buf = [0xA5u8; 4];
-    print_wrote(b"no offices", write_opening(&mut buf, 3, 0, 0, b"\x00"));
-    print_wrote(b"no epochs", write_opening(&mut buf, 3, 1, 1, b""));
-    print_wrote(b"stray leader", write_opening(&mut buf, 3, 1, 1, b"\x01"));
-    print_wrote(
-        b"a third untrusted",
-        write_opening(&mut buf, 3, 3, 3, b"\x00"),
-    );
+// Tries openings that the writer refuses.
+fn print_refused_openings(buf: &mut [u8; 4]) {
+    print_wrote(b"no offices", write_opening(buf, 3, 0, 0, b"\x00"));
+    print_wrote(b"no epochs", write_opening(buf, 3, 1, 1, b""));
+    print_wrote(b"stray leader", write_opening(buf, 3, 1, 1, b"\x01"));
+    print_wrote(b"a third untrusted", write_opening(buf, 3, 3, 3, b"\x00"));
     print_wrote(
         b"no room for an opening",
-        write_opening(&mut buf, 3, 1, 1, b"\x00\x00\x00"),
+        write_opening(buf, 3, 1, 1, b"\x00\x00\x00"),
     );
+}
+
+// Tries steps that the writer refuses, and an end.
+fn print_refused_steps(buf: &mut [u8; 4]) {
     print_wrote(
         b"office 32",
-        write_step(&mut buf, 3, Step::Vote(Office(32), Message(0))),
+        write_step(buf, 3, Step::Vote(Office(32), Message(0))),
     );
     print_wrote(
         b"message 1024, no room",
-        write_step(&mut buf, 30, Step::Deliver(Message(1024), Office(0))),
+        write_step(buf, 30, Step::Deliver(Message(1024), Office(0))),
     );
     print_wrote(
         b"epoch 512",
-        write_step(&mut buf, 3, Step::Draft(Block(0), Epoch(512), 0)),
+        write_step(buf, 3, Step::Draft(Block(0), Epoch(512), 0)),
     );
     print_wrote(
         b"no room for a step",
-        write_step(&mut buf, 3, Step::Draft(Block(0), Epoch(0), 0)),
+        write_step(buf, 3, Step::Draft(Block(0), Epoch(0), 0)),
     );
-    print_wrote(b"no room for the end", write_end(&mut buf, 29));
-    print_bytes(&buf);
-    print_wrote(b"room for the end", write_end(&mut buf, 27));
+    print_wrote(b"no room for the end", write_end(buf, 29));
+    print_bytes(buf);
+}
+
+// Writes an end and a step before it, and reads them and what stands past them.
+fn print_read_back(buf: &mut [u8; 4]) {
+    print_wrote(b"room for the end", write_end(buf, 27));
     print_wrote(
         b"room for a bad send",
         write_step(
-            &mut buf,
+            buf,
             3,
             Step::BadSend(Office(1), Kind::Vote, Office(2), Block(3)),
         ),
     );
-    print_bytes(&buf);
-    print_item(&buf, 3);
-    print_item(&buf, 29);
-    print_item(&buf, 18446744073709551615);
+    print_bytes(buf);
+    print_item(buf, 3);
+    print_item(buf, 29);
+    print_item(buf, 18446744073709551615);
 }
 
 // Prints the log that ends at a position of the buffer.
@@ -228,5 +232,8 @@ fn main() {
     let at = third_epoch(&mut buf, at);
     let end = write_end(&mut buf, at).next;
     print_written(&buf, end, 20);
-    print_refusals();
+    let mut small = [0xA5u8; 4];
+    print_refused_openings(&mut small);
+    print_refused_steps(&mut small);
+    print_read_back(&mut small);
 }

@@ -41,15 +41,20 @@ next-leader-bits l m p i schedule h before =
     (put-next l p (leaderBits (take i schedule)) (toBits 5 (getD schedule i 0)) (p + 5 * i) (rw long))
 
 -- n, the trust bits, the length and the leaders, laid one behind the other, are the opening
-pub put-opening : (l : List ℕ) (p n trust : ℕ) (schedule : List ℕ)
-    → put (put (put (put l p (toBits 6 n)) (p + 6) (trustBits n trust)) (p + 6 + n) (toBits 9 (length schedule))) (p + 6 + n + 9) (leaderBits schedule)
-    ≡ put l p (openingBits n trust schedule)
+pub put-opening : (l : List ℕ) (p n trust : ℕ) (schedule : List ℕ) (l1 l2 l3 l4 : List ℕ)
+    → l1 ≡ put l p (toBits 6 n) → l2 ≡ put l1 (p + 6) (trustBits n trust)
+    → l3 ≡ put l2 (p + 6 + n) (toBits 9 (length schedule)) → l4 ≡ put l3 (p + 6 + n + 9) (leaderBits schedule)
+    → l4 ≡ put l p (openingBits n trust schedule)
 unfolding openingBits
-put-opening l p n trust schedule =
+put-opening l p n trust schedule l1 l2 l3 l4 e1 e2 e3 e4 =
     let t0 : List Bool = toBits 6 n in
     let t1 : List Bool = t0 ++ trustBits n trust in
     let t2 : List Bool = t1 ++ toBits 9 (length schedule) in
     rw (
+      e4,
+      e3,
+      e2,
+      e1,
       put-next l p t0 (trustBits n trust) (p + 6) (simp length-toBits),
       put-next l p t1 (toBits 9 (length schedule)) (p + 6 + n) (simp (length-append, length-toBits, length-trust) (omega arith)),
       put-next l p t2 (leaderBits schedule) (p + 6 + n + 9) (simp (length-append, length-toBits, length-trust) (omega arith)),

@@ -10,7 +10,7 @@ use lib.Dec.{eqb, leb}
 use lib.ListN.{List·getD-eq-default}
 use Rattle.words.specs.Tests.{both, all}
 use Rattle.words.proofs.Tests.{both-left, both-right, all-at}
-use Rattle.packed_log.specs.Widths.{fields, width}
+use Rattle.packed_log.specs.Widths.{fields, width, due}
 
 -- the widths of a kind as the table has them: a byte for each column, the first column highest
 abbrev entry : (kind : ℕ) → ℕ
@@ -40,6 +40,25 @@ table-width kind column hk hc =
     let same : eqb (byte kind column) (width kind column) ≡ true = both-left _ (leb (byte kind column) 16) test in
     let small : leb (byte kind column) 16 ≡ true = both-right (eqb (byte kind column) (width kind column)) _ test in
     (eqb-true (byte kind column) (width kind column) same, leb-true (byte kind column) 16 small)
+
+-- the widths of a kind's four columns add up to the bits that are due
+pub due-sum : (kind a b c d : ℕ) → (a ≡ width kind 0) × (a ≤ 16) → (b ≡ width kind 1) × (b ≤ 16) → (c ≡ width kind 2) × (c ≤ 16) → (d ≡ width kind 3) × (d ≤ 16)
+    → (a + b + c + d ≡ due kind) × (a + b + c + d ≤ 64)
+unfolding due
+due-sum kind a b c d ha hb hc hd = (rw (ha .0, hb .0, hc .0, hd .0), omega arith)
+
+-- columns of those widths, one behind the other from position p on, end within the size
+pub record Columns (p size w0 w1 w2 w3 : ℕ) : Type 0 where
+  pub first : p + w0 ≤ size
+  pub second : p + w0 + w1 ≤ size
+  pub third : p + w0 + w1 + w2 ≤ size
+  pub fourth : p + w0 + w1 + w2 + w3 ≤ size
+
+-- it is so of the columns of a kind where the bits that are due end within it
+pub columns : (kind p size w0 w1 w2 w3 : ℕ) → w0 ≡ width kind 0 → w1 ≡ width kind 1 → w2 ≡ width kind 2 → w3 ≡ width kind 3 → p + due kind ≤ size
+    → Columns p size w0 w1 w2 w3
+unfolding due
+columns kind p size w0 w1 w2 w3 e0 e1 e2 e3 room = record { first = omega arith; second = omega arith; third = omega arith; fourth = omega arith }
 
 -- k is none of the numbers 1 to n, as the last arm of a `match` says it
 unfoldable pub Other : (n k : ℕ) → Type 0

@@ -50,6 +50,12 @@ field-three (a ∷ b ∷ c ∷ l) p w room h = field-left (a ∷ b ∷ c ∷ [])
 pub bytes-drop : (f : ℕ) (l : List ℕ) → Bytes l → Bytes (drop f l)
 bytes-drop f l h i = rw getD-drop (h (f + i))
 
+-- three bytes make the window at the first of them
+pub three-window : (l : List ℕ) (i a b c : ℕ) → (a ≡ getD l i 0) × (a < 256) → (b ≡ getD l (i + 1) 0) × (b < 256) → (c ≡ getD l (i + 2) 0) × (c < 256)
+    → (a * 65536 + b * 256 + c ≡ window l i) × (a * 65536 + b * 256 + c < 2 ^ 24)
+unfolding window
+three-window l i a b c ha hb hc = (rw (ha .0, hb .0, hc .0), omega arith)
+
 -- the window at a byte is the window at the front of the log from that byte on
 window-drop : (l : List ℕ) (f : ℕ) → window (drop f l) 0 ≡ window l f
 unfolding window

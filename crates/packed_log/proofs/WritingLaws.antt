@@ -53,15 +53,21 @@ module _ (r : Row) (p w0 w1 w2 w3 : ℕ)
         }
 
     -- a kind with its first field, and the other fields, laid one behind the other, are the row
-    pub put-row : (l : List ℕ) → r .first < 2 ^ w0
-        → put (put (put (put l p (toBits (4 + w0) (r .kind * 2 ^ w0 + r .first))) (p + 4 + w0) (toBits w1 (r .second))) (p + 4 + w0 + w1) (toBits w2 (r .third))) (p + 4 + w0 + w1 + w2) (toBits w3 (r .fourth))
-        ≡ put l p (rowBits r)
+    pub put-row : (l : List ℕ) → r .first < 2 ^ w0 → (head : ℕ) → head ≡ r .kind * 2 ^ w0 + r .first
+        → (l1 l2 l3 l4 : List ℕ) → l1 ≡ put l p (toBits (4 + w0) head) → l2 ≡ put l1 (p + 4 + w0) (toBits w1 (r .second))
+        → l3 ≡ put l2 (p + 4 + w0 + w1) (toBits w2 (r .third)) → l4 ≡ put l3 (p + 4 + w0 + w1 + w2) (toBits w3 (r .fourth))
+        → l4 ≡ put l p (rowBits r)
     unfolding rowBits
-    put-row l small =
+    put-row l small head joined l1 l2 l3 l4 h1 h2 h3 h4 =
         let t1 : List Bool = toBits 4 (r .kind) ++ toBits w0 (r .first) in
         let t2 : List Bool = t1 ++ toBits w1 (r .second) in
         let t3 : List Bool = t2 ++ toBits w2 (r .third) in
         rw (
+          h4,
+          h3,
+          h2,
+          h1,
+          joined,
           join-bits 4 w0 (r .kind) (r .first) small,
           put-next l p t1 (toBits w1 (r .second)) (p + 4 + w0) (simp (length-append, length-toBits) (omega arith)),
           put-next l p t2 (toBits w2 (r .third)) (p + 4 + w0 + w1) (simp (length-append, length-toBits) (omega arith)),

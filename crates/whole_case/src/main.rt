@@ -1,4 +1,5 @@
-// Runs the worked case of the rules through the step methods and prints its report; then tries registers that are unfit in one way each.
+// Runs the worked case of the rules through the step methods and prints its report; then tries registers that are unfit in one way each, and an
+// opening with trust bits from n up.
 use libc::STDOUT_FILENO;
 use register::Block;
 use register::Message;
@@ -127,6 +128,13 @@ fn unfit_messages(register: Register) {
     unfit(b"1025 messages", r);
 }
 
+// Prints the trust word of an opening of three offices with that one.
+fn trust_line(trust: u32) {
+    print(b"trust ");
+    number(Register::open(3, trust, b"\x00").register.trust as u64);
+    print(b"\n");
+}
+
 fn main() {
     let opened = Register::open(3, 7, b"\x00\x00\x00");
     let fresh = opened.register;
@@ -137,4 +145,5 @@ fn main() {
     unfit_counts(fresh);
     unfit_tables(fresh);
     unfit_messages(fresh);
+    trust_line(0xFFFF_FFFF);
 }

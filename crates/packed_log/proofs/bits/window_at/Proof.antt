@@ -1,7 +1,6 @@
 -- `packed_log::bits::window_at`: joins three bytes, each below 256.
 use borrow.Author.Needs.{needs}
-use native.Mathlib.Omega.{arith}
-use Rattle.packed_log.specs.Windows.{window}
+use Rattle.packed_log.proofs.Windows.{three-window}
 use Rattle.packed_log.proofs.bits.window_at.Statement.{statement}
 use Rattle.packed_log.proofs.bits.window_at.Tie as tie
 
@@ -33,8 +32,9 @@ add-result-2 : tie.Need-add-result-2
 add-result-2 c = search needs
 
 returns : tie.Need-returns
-unfolding window
-returns c = (cc, omega arith)
+returns c =
+    let a = c .before .before .before .before .args in
+    three-window (a .log .now) (a .i) _ _ _ (c .before .before .byte-at .ensures) (c .before .byte-at2 .ensures) (c .byte-at3 .ensures)
 
 pub window-at-spec : {M : Type 1} → statement M
 window-at-spec =

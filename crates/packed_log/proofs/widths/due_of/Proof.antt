@@ -1,7 +1,6 @@
 -- `packed_log::widths::due_of`: adds the four widths of a kind.
 use borrow.Author.Needs.{needs}
-use native.Mathlib.Omega.{arith}
-use Rattle.packed_log.specs.Widths.{due}
+use Rattle.packed_log.proofs.WidthLaws.{due-sum}
 use Rattle.packed_log.proofs.widths.due_of.Statement.{statement}
 use Rattle.packed_log.proofs.widths.due_of.Tie as tie
 
@@ -27,8 +26,11 @@ add-result-3 : tie.Need-add-result-3
 add-result-3 c = search needs
 
 returns : tie.Need-returns
-unfolding due
-returns c = (cc, omega arith)
+returns c =
+    let at-third = c .before in
+    let at-second = at-third .before in
+    let at-first = at-second .before in
+    due-sum (at-first .before .args .kind) _ _ _ _ (at-first .width-of .ensures) (at-second .width-of2 .ensures) (at-third .width-of3 .ensures) (c .width-of4 .ensures)
 
 pub due-of-spec : {M : Type 1} → statement M
 due-of-spec =

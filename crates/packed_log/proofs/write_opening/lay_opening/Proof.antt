@@ -1,6 +1,6 @@
 -- `packed_log::write_opening::lay_opening`: each part is laid where the one before it ends.
 use borrow.Author.Needs.{needs}
-use mathlib.Core.Path.{_∙_}
+use native.Mathlib.Omega.{arith}
 use Rattle.packed_log.proofs.OpeningWrites.{put-opening}
 use Rattle.packed_log.proofs.write_opening.lay_opening.Statement.{statement}
 use Rattle.packed_log.proofs.write_opening.lay_opening.Tie as tie
@@ -27,7 +27,12 @@ add-write-leaders : tie.Need-add-write-leaders
 add-write-leaders c = search needs
 
 write-leaders-requires : tie.Need-write-leaders-requires
-write-leaders-requires c κs = search needs
+write-leaders-requires c κs =
+    let at-length = c .before .before .before in
+    let at-trust = at-length .before .before .before .before in
+    let at-count = at-trust .before .before .before .before in
+    let begun = at-count .before .before .before .before in
+    (begun .pre .1, begun .pre .2, omega arith, omega arith)
 
 same-length : tie.Need-same-length
 same-length c = search needs
@@ -39,9 +44,8 @@ returns c =
     let at-trust = at-length .before .before .before .before in
     let at-count = at-trust .before .before .before .before in
     let a = at-count .before .before .before .before .args in
-    at-leaders .write-leaders .ensures
-    ∙ rw (at-length .write-bits2 .ensures, at-trust .write-trust .ensures, at-count .write-bits .ensures)
-    (put-opening (a .buf .now) (a .at) (a .n) (a .trust) (a .schedule .now))
+    put-opening (a .buf .now) (a .at) (a .n) (a .trust) (a .schedule .now) _ _ _ _
+    (at-count .write-bits .ensures) (at-trust .write-trust .ensures) (at-length .write-bits2 .ensures) (at-leaders .write-leaders .ensures)
 
 pub lay-opening-spec : {M : Type 1} → statement M
 lay-opening-spec =

@@ -1,6 +1,5 @@
 -- `packed_log::writing::write_row`: each field is laid where the one before it ends.
 use borrow.Author.Needs.{needs}
-use mathlib.Core.Path.{_∙_}
 use native.Mathlib.Omega.{arith}
 use lib.ListN.{length}
 use Rattle.packed_log.proofs.WritingLaws.{Fits, row-fits, put-row}
@@ -60,18 +59,21 @@ write-bits-requires c κs =
 
 write-bits-requires-2 : tie.Need-write-bits-requires-2
 write-bits-requires-2 c κs =
-    let held = fits (c .before .before .before .before .before .before) in
-    (omega arith, omega (arith, held .room), held .second)
+    let at-widths = c .before .before .before .before .before .before in
+    let held = fits at-widths in
+    (at-widths .before .before .width-of2 .ensures .1, omega (arith, held .room), held .second)
 
 write-bits-requires-3 : tie.Need-write-bits-requires-3
 write-bits-requires-3 c κs =
-    let held = fits (c .before .before .before .before .before .before .before .before .before .before) in
-    (omega arith, omega (arith, held .room), held .third)
+    let at-widths = c .before .before .before .before .before .before .before .before .before .before in
+    let held = fits at-widths in
+    (at-widths .before .width-of3 .ensures .1, omega (arith, held .room), held .third)
 
 write-bits-requires-4 : tie.Need-write-bits-requires-4
 write-bits-requires-4 c κs =
-    let held = fits (c .before .before .before .before .before .before .before .before .before .before .before .before .before .before) in
-    (omega arith, omega (arith, held .room), held .fourth)
+    let at-widths = c .before .before .before .before .before .before .before .before .before .before .before .before .before .before in
+    let held = fits at-widths in
+    (at-widths .width-of4 .ensures .1, omega (arith, held .room), held .fourth)
 
 same-length : tie.Need-same-length
 same-length c = search needs
@@ -86,11 +88,10 @@ returns c =
     let at-widths = at-head .before .before in
     let held = fits at-widths in
     let a = start at-widths .args in
-    at-fourth .write-bits4 .ensures
-    ∙ rw (at-third .write-bits3 .ensures, at-second .write-bits2 .ensures, at-first .write-bits .ensures, at-head .head-of .ensures .0)
-    (put-row (a .r) (a .at) _ _ _ _
+    put-row (a .r) (a .at) _ _ _ _
     (at-widths .before .before .before .width-of .ensures .0) (at-widths .before .before .width-of2 .ensures .0) (at-widths .before .width-of3 .ensures .0) (at-widths .width-of4 .ensures .0)
-    (a .buf .now) (held .first))
+    (a .buf .now) (held .first) _ (at-head .head-of .ensures .0) _ _ _ _
+    (at-first .write-bits .ensures) (at-second .write-bits2 .ensures) (at-third .write-bits3 .ensures) (at-fourth .write-bits4 .ensures)
 
 pub write-row-spec : {M : Type 1} → statement M
 write-row-spec =
