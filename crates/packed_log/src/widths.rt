@@ -6,29 +6,42 @@ ghost use Rattle.packed_log.specs.Widths.{width, due};
 // A kind takes so many bits.
 pub(crate) const KIND_WIDTH: usize = 4;
 
-// The widths of the four columns of a kind, a byte for each column, the first column highest; 00 where there is no field.
+// The widths of the four columns of each of the nine kinds, a byte for each column, the first column highest; 00 where there is no field.
+const WIDTHS: [u32; 9] = [
+    // end
+    0x00_00_00_00,
+    // propose: office, parent, payload
+    0x05_08_10_00,
+    // vote: office, message
+    0x05_0A_00_00,
+    // register: office, message
+    0x05_0A_00_00,
+    // finalise: office, block
+    0x05_08_00_00,
+    // deliver: message, office
+    0x0A_05_00_00,
+    // bad send: sender, kind, signer, block
+    0x05_01_05_08,
+    // draft: parent, epoch, payload
+    0x08_09_10_00,
+    // advance
+    0x00_00_00_00,
+];
+
+// The entry of a kind. It goes by cases, so that each entry is a constant for the compiler.
 fn entry_of(kind: u8) -> u32
     ensures { λ r. ⌜ r ≡ ((width kind 0 * 256 + width kind 1) * 256 + width kind 2) * 256 + width kind 3 ⌝ }
 {
     match kind {
-        // propose: office, parent, payload
-        1 => 0x05_08_10_00,
-        // vote: office, message
-        2 => 0x05_0A_00_00,
-        // register: office, message
-        3 => 0x05_0A_00_00,
-        // finalise: office, block
-        4 => 0x05_08_00_00,
-        // deliver: message, office
-        5 => 0x0A_05_00_00,
-        // bad send: sender, kind, signer, block
-        6 => 0x05_01_05_08,
-        // draft: parent, epoch, payload
-        7 => 0x08_09_10_00,
-        // advance
-        8 => 0x00_00_00_00,
-        // end
-        _ => 0x00_00_00_00,
+        1 => WIDTHS[1],
+        2 => WIDTHS[2],
+        3 => WIDTHS[3],
+        4 => WIDTHS[4],
+        5 => WIDTHS[5],
+        6 => WIDTHS[6],
+        7 => WIDTHS[7],
+        8 => WIDTHS[8],
+        _ => WIDTHS[0],
     }
 }
 

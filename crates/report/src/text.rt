@@ -47,11 +47,14 @@ fn digits_of(n: usize) -> usize
 {
     let mut size = 1;
     let mut power = 10;
-    while (size < 19) & (power <= n) {
+    while power <= n {
+        if size == 19 {
+            return 20;
+        }
         power *= 10;
         size += 1;
     }
-    if power <= n { 20 } else { size }
+    size
 }
 
 // Puts one digit at its place.

@@ -6,6 +6,33 @@ use Rattle.packed_log.proofs.WidthLaws.{Other, no-entry}
 use Rattle.packed_log.proofs.widths.entry_of.Statement.{statement}
 use Rattle.packed_log.proofs.widths.entry_of.Tie as tie
 
+array-read-result : tie.Need-array-read-result
+array-read-result c = search needs
+
+array-read-result-2 : tie.Need-array-read-result-2
+array-read-result-2 c = search needs
+
+array-read-result-3 : tie.Need-array-read-result-3
+array-read-result-3 c = search needs
+
+array-read-result-4 : tie.Need-array-read-result-4
+array-read-result-4 c = search needs
+
+array-read-result-5 : tie.Need-array-read-result-5
+array-read-result-5 c = search needs
+
+array-read-result-6 : tie.Need-array-read-result-6
+array-read-result-6 c = search needs
+
+array-read-result-7 : tie.Need-array-read-result-7
+array-read-result-7 c = search needs
+
+array-read-result-8 : tie.Need-array-read-result-8
+array-read-result-8 c = search needs
+
+array-read-result-9 : tie.Need-array-read-result-9
+array-read-result-9 c = search needs
+
 returns : tie.Need-returns
 unfolding width fields
 returns c = rw (c .match .keys1)
@@ -46,6 +73,15 @@ pub entry-of-spec : {M : Type 1} → statement M
 entry-of-spec =
     tie.close
     (tie.spec
+    array-read-result
+    array-read-result-2
+    array-read-result-3
+    array-read-result-4
+    array-read-result-5
+    array-read-result-6
+    array-read-result-7
+    array-read-result-8
+    array-read-result-9
     returns
     returns-2
     returns-3
