@@ -12,9 +12,9 @@ use Rattle.register.specs.Tables.{parentOf}
 use Rattle.register.specs.Chains.{chain, chainLength, begins, chainNotarised}
 use Rattle.register.proofs.Chains.{parent-le, chain-genesis, chain-step, notarised-on, on-own-chain}
 use Rattle.register.proofs.Finalising.{Consecutive}
+use Rattle.register.proofs.Growth.{Grows, grows-refl, grows-trans, chain-same, length-kept, chain-notarised-kept, consecutive-kept}
 use Rattle.agreement.specs.Moments.{Run, opened, after, afterFirst, moment}
 use Rattle.agreement.specs.Claim.{finalChain, Trusted, Notarised, Begins, Agreement}
-use Rattle.register.proofs.Growth.{Grows, grows-refl, grows-trans, chain-same, length-kept, chain-notarised-kept, consecutive-kept}
 use Rattle.agreement.proofs.Safety.{Finalised, genesis, middle, Safe, Lawful, signed-le}
 use Rattle.agreement.proofs.Preservation.{safe-step}
 use Rattle.agreement.proofs.Steps.{lawful}

@@ -51,13 +51,13 @@ module _ {r : Register} (safe : Safe r) where
       safe .ordered (f .0) x y (f .1) (f .2) (f .3)
 
   -- two notarised blocks of one epoch are the same
-  pub one-per-epoch : {x y : ℕ} → Ordered r x y → epochOf r x ≡ epochOf r y → x ≡ y
+  one-per-epoch : {x y : ℕ} → Ordered r x y → epochOf r x ≡ epochOf r y → x ≡ y
   one-per-epoch (same e) h = e
   one-per-epoch (before b) h = absurd (omega (arith, b .earlier))
   one-per-epoch (after b) h = absurd (omega (arith, b .earlier))
 
   -- of two notarised blocks, the one on the longer parent's chain has the later epoch
-  pub longer-later : {x y : ℕ} → Ordered r x y → chainLength r (parentOf r x) < chainLength r (parentOf r y) → epochOf r x < epochOf r y
+  longer-later : {x y : ℕ} → Ordered r x y → chainLength r (parentOf r x) < chainLength r (parentOf r y) → epochOf r x < epochOf r y
   longer-later (same e) h = absurd (omega (arith, ap (λ (z : ℕ). chainLength r (parentOf r z)) e))
   longer-later (before b) h = b .earlier
   longer-later (after b) h = absurd (omega (arith, b .shorter))

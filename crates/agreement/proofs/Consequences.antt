@@ -7,16 +7,15 @@ use mathlib.Core.Logic.{_⊎_, inl, inr}
 use native.Mathlib.Decide.{decLe}
 use native.Mathlib.Omega.{arith}
 use lib.ListN.{length, getD}
-use Rattle.words.specs.Tests.{both, every}
 use Rattle.register.specs.declared.sorts.Office.{Office}
 use Rattle.register.specs.declared.step.Step.{Step}
 use Rattle.register.specs.declared.step.Step.the-variants.{Advance}
 use Rattle.register.specs.declared.table.Register.{Register}
 use Rattle.register.specs.declared.table.Stepped.{Stepped}
 use Rattle.register.specs.Tables.{block, finalOf}
-use Rattle.register.specs.Chains.{valid, chainNotarised}
+use Rattle.register.specs.Chains.{chainNotarised}
 use Rattle.register.specs.Steps.{stepRule}
-use Rattle.register.proofs.Chains.{chain-genesis, notarised-parent}
+use Rattle.register.proofs.Chains.{genesis-notarised, notarised-parent}
 use Rattle.register.proofs.Ranges.{Ranges, ranges-fit}
 use Rattle.register.proofs.FitSteps.{ranges-step}
 use Rattle.register.proofs.FitOpening.{ranges-opening, quick-same}
@@ -24,11 +23,6 @@ use Rattle.agreement.specs.Moments.{Run, opened, after, afterFirst, mome
 use Rattle.agreement.specs.Claim.{finalChain, Trusted, Notarised, Begins, Agreement, CallsAreMoments, NeverPart}
 use Rattle.agreement.proofs.Safety.{Finalised, genesis, middle}
 use Rattle.agreement.proofs.Agreement.{safe-moment, agreement}
-
--- the chain of genesis is notarised in every view
-genesis-notarised : (r : Register) (q : ℕ) → chainNotarised r q 0 ≡ true
-unfolding chainNotarised valid every both
-genesis-notarised r q = rw (chain-genesis r)
 
 -- a final chain is notarised in its office's view
 final-notarised : {r : Register} {p c : ℕ} → Finalised r p c → chainNotarised r p c ≡ true

@@ -39,9 +39,9 @@ use Rattle.register.proofs.Judging.{judged-has}
 use Rattle.register.proofs.Naming.{MadeOf, named-keeps, named-made}
 use Rattle.register.proofs.Chains.{parent-le}
 use Rattle.register.proofs.Finalising.{consecutive}
-use Rattle.agreement.specs.Moments.{after}
 use Rattle.register.proofs.Growth.{Grows, grows-refl, consecutive-kept}
 use Rattle.register.proofs.Growing.{grows-final, grows-propose, grows-vote, grows-register, grows-deliver, grows-bad-send, grows-draft, grows-advance}
+use Rattle.agreement.specs.Moments.{after}
 use Rattle.agreement.proofs.Safety.{Signature, Finalised, middle, Safe, Signing, News, still, later, Lawful, signature, made-le}
 use Rattle.agreement.proofs.Sizes.{sizes-named, sizes-sent, sizes-moved, sizes-acted, sizes-final, sizes-epoch}
 

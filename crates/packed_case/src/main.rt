@@ -174,7 +174,7 @@ fn print_refused_openings(buf: &mut [u8; 4]) {
     );
 }
 
-// Tries steps that the writer refuses, and an end.
+// Tries steps that the writer refuses, and an end, and shows that the buffer is as it was.
 fn print_refused_steps(buf: &mut [u8; 4]) {
     print_wrote(
         b"office 32",
@@ -196,7 +196,7 @@ fn print_refused_steps(buf: &mut [u8; 4]) {
     print_bytes(buf);
 }
 
-// Writes an end and a step before it, and reads them and what stands past them.
+// Writes an end and a step before it; reads the step, then at a position with too few bits left and at one past the log.
 fn print_read_back(buf: &mut [u8; 4]) {
     print_wrote(b"room for the end", write_end(buf, 27));
     print_wrote(

@@ -66,7 +66,7 @@ num-append (b ∷ s) t =
     e
 
 -- the number of the w bits of v is v within w bits
-pub num-toBits-mod : (w v : ℕ) → num (toBits w v) ≡ v % 2 ^ w
+num-toBits-mod : (w v : ℕ) → num (toBits w v) ≡ v % 2 ^ w
 unfolding num toBits
 num-toBits-mod zero v = rw mod-one
 num-toBits-mod (suc w) v =
@@ -106,7 +106,7 @@ join-bits (suc a) b x y h =
     rw (suc-add, above, join-bits a b x y h)
 
 -- a part of a row, as a part of its number
-pub num-middle : (a m z : List Bool) → num (a ++ (m ++ z)) / 2 ^ length z % 2 ^ length m ≡ num m
+num-middle : (a m z : List Bool) → num (a ++ (m ++ z)) / 2 ^ length z % 2 ^ length m ≡ num m
 num-middle a m z =
     let e : num (a ++ (m ++ z)) ≡ (num a * 2 ^ length m + num m) * 2 ^ length z + num z = rw (num-append a (m ++ z), num-append m z, length-append, pow-add, add-mul, mul-assoc, add-assoc) in
     rw (e, high (num a * 2 ^ length m + num m) (length z) (num-lt z), low (num a) (length m) (num-lt m))

@@ -18,13 +18,13 @@ length-bits [] = refl
 length-bits (b ∷ l) = rw (length-append, length-toBits, length-bits l, mul-suc) (add-comm 8 (8 * length l))
 
 -- the row of two logs, one behind the other
-pub bits-append : (l m : List ℕ) → bits (l ++ m) ≡ bits l ++ bits m
+bits-append : (l m : List ℕ) → bits (l ++ m) ≡ bits l ++ bits m
 unfolding bits
 bits-append [] m = refl
 bits-append (b ∷ l) m = rw (bits-append l m, append-assoc)
 
 -- the row from a byte's first bit on
-pub drop-bits : (f : ℕ) (l : List ℕ) → drop (8 * f) (bits l) ≡ bits (drop f l)
+drop-bits : (f : ℕ) (l : List ℕ) → drop (8 * f) (bits l) ≡ bits (drop f l)
 unfolding bits
 drop-bits zero l = refl
 drop-bits (suc f) [] = rw drop-nil
@@ -86,11 +86,11 @@ pub length-put : (l : List ℕ) (p : ℕ) (t : List Bool) → length (put l p t)
 length-put l p t = ap length (put-pack l p t) ∙ length-pack (length l) (sets (bits l) p t)
 
 -- a buffer that was written holds bytes
-pub bytes-put : (l : List ℕ) (p : ℕ) (t : List Bool) → Bytes (put l p t)
+bytes-put : (l : List ℕ) (p : ℕ) (t : List Bool) → Bytes (put l p t)
 bytes-put l p t = rw put-pack (bytes-pack (length l) (sets (bits l) p t))
 
 -- the row of a buffer after t was laid over it
-pub bits-put : (l : List ℕ) (p : ℕ) (t : List Bool) → bits (put l p t) ≡ sets (bits l) p t
+bits-put : (l : List ℕ) (p : ℕ) (t : List Bool) → bits (put l p t) ≡ sets (bits l) p t
 unfolding put
 bits-put l p t = bits-bytes (length l) (sets (bits l) p t) (length-sets (bits l) p t ∙ length-bits l)
 
@@ -121,11 +121,11 @@ unfolding field
 field-drop l f p w = rw (← drop-bits f l, drop-drop p (8 * f) (bits l))
 
 -- two logs with one row are one log
-pub same-row : (l m : List ℕ) → Bytes l → Bytes m → bits l ≡ bits m → l ≡ m
+same-row : (l m : List ℕ) → Bytes l → Bytes m → bits l ≡ bits m → l ≡ m
 same-row l m hl hm e = sym (bytes-bits l hl) ∙ ap bytes e ∙ bytes-bits m hm
 
 -- bytes joined to bytes are bytes
-pub bytes-append : (l m : List ℕ) → Bytes l → Bytes m → Bytes (l ++ m)
+bytes-append : (l m : List ℕ) → Bytes l → Bytes m → Bytes (l ++ m)
 bytes-append [] m hl hm i = hm i
 bytes-append (b ∷ l) m hl hm zero = hl 0
 bytes-append (b ∷ l) m hl hm (suc i) = bytes-append l m (λ k. hl (suc k)) hm i
@@ -138,7 +138,7 @@ put-left l m p t h room =
     (rw (bits-put, bits-append, bits-append, bits-put, sets-left (bits l) (bits m) p t within))
 
 -- what is laid over the second of two parts leaves the first
-pub put-right : (l m : List ℕ) (p : ℕ) (t : List Bool) → Bytes l → put (l ++ m) (8 * length l + p) t ≡ l ++ put m p t
+put-right : (l m : List ℕ) (p : ℕ) (t : List Bool) → Bytes l → put (l ++ m) (8 * length l + p) t ≡ l ++ put m p t
 put-right l m p t h =
     same-row (put (l ++ m) (8 * length l + p) t) (l ++ put m p t) (bytes-put (l ++ m) (8 * length l + p) t) (bytes-append l (put m p t) h (bytes-put m p t))
     (rw (bits-put, bits-append, bits-append, bits-put, ← length-bits, sets-right (bits l) (bits m) p t))

@@ -65,7 +65,7 @@ none false true there k refusal e h = absurd (omega arith)
 none false false there k refusal e h = (ltb-false there k e, h)
 
 -- where the leaders are not refused, all are there, and opening them is not refused
-pub told-none : (there k refusal : ℕ) → choose (eqb refusal 3) 3 (choose (ltb there k) 27 refusal) ≡ 0 → (k ≤ there) × (refusal ≡ 0)
+told-none : (there k refusal : ℕ) → choose (eqb refusal 3) 3 (choose (ltb there k) 27 refusal) ≡ 0 → (k ≤ there) × (refusal ≡ 0)
 told-none there k refusal h = none (eqb refusal 3) (ltb there k) there k refusal refl h
 
 -- equal trust words and schedules open alike
@@ -82,7 +82,7 @@ opened-register n trust schedule o opens none =
     ap (λ (x : Opened). x .register) opens ∙ rw clear
 
 -- a refused opening
-pub opened-refused : (log : List ℕ) (n k refusal : ℕ) → (refusal ≡ 0 → ⊥) → opened closed refusal 0 ≡ openedBy log n k refusal
+opened-refused : (log : List ℕ) (n k refusal : ℕ) → (refusal ≡ 0 → ⊥) → opened closed refusal 0 ≡ openedBy log n k refusal
 unfolding openedBy choose
 opened-refused log n k refusal some = rw (ne-eqb refusal 0 some)
 

@@ -1,5 +1,5 @@
 -- Passing over items: what it tells of the item that is read at the same position.
-use Prim.Native.Nat.{ℕ, _+_, _*_, _^_, _≤_, _<_}
+use Prim.Native.Nat.{ℕ, _+_, _*_, _≤_, _<_}
 use mathlib.Core.Path.{_≡_, refl, ap}
 use mathlib.Core.List.{List}
 use native.Mathlib.Omega.{arith}
@@ -13,22 +13,11 @@ use Rattle.packed_log.specs.declared.item.Item.the-variants as items
 use Rattle.packed_log.specs.declared.item.Passed.{Passed}
 use Rattle.packed_log.specs.declared.item.Read.{Read}
 use Rattle.packed_log.specs.Bits.{field}
-use Rattle.packed_log.specs.Widths.{width, due}
-use Rattle.packed_log.specs.Rows.{row, rowOf, stepOf, Within}
+use Rattle.packed_log.specs.Widths.{due}
+use Rattle.packed_log.specs.Rows.{rowOf, stepOf}
 use Rattle.packed_log.specs.Items.{left, rowAt, read, padded, endAt, stepAt, kindAt, itemAt, passedBy, passedOf}
 use Rattle.packed_log.proofs.RowLaws.{row-step}
 use Rattle.packed_log.proofs.ItemsReadBack.{chosen, within-row}
-
--- four numbers of those widths, read one behind the other, are the row of their kind, and each has room in its column
-pub row-read : (log : List ℕ) (kind p w0 w1 w2 w3 : ℕ) → w0 ≡ width kind 0 → w1 ≡ width kind 1 → w2 ≡ width kind 2 → w3 ≡ width kind 3
-    → (a b c d : ℕ) → (a ≡ field log p w0) × (a < 2 ^ w0) → (b ≡ field log (p + w0) w1) × (b < 2 ^ w1)
-    → (c ≡ field log (p + w0 + w1) w2) × (c < 2 ^ w2) → (d ≡ field log (p + w0 + w1 + w2) w3) × (d < 2 ^ w3)
-    → (row kind a b c d ≡ rowAt log kind p) × Within (row kind a b c d)
-unfolding rowAt
-row-read log kind p w0 w1 w2 w3 e0 e1 e2 e3 a b c d ha hb hc hd = (
-  rw (ha .0, hb .0, hc .0, hd .0, e0, e1, e2, e3),
-  record { first = rw (← e0) (ha .1); second = rw (← e1) (hb .1); third = rw (← e2) (hc .1); fourth = rw (← e3) (hd .1) },
-)
 
 -- a step that is read has the kind that it was read by
 pub kind-kept : (log : List ℕ) (p kind : ℕ) → 0 < kind → kind < 9 → rowOf (stepOf (rowAt log kind (p + 4))) .kind ≡ kind

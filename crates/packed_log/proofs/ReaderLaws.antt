@@ -126,10 +126,10 @@ pub record Loan : Type 0 where
   pub κ′ : Lft
   pub q : Share
   pub q′ : Share
-  pub bounds : AllOutlive 2 outlives (κ, (κ′, tt))
+  bounds : AllOutlive 2 outlives (κ, (κ′, tt))
   pub b : ℕ
   pub o : ℕ
-  pub γ : GName
+  γ : GName
   pub reader : Reader
 
 module _ (l : Loan) where

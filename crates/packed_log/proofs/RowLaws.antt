@@ -1,7 +1,8 @@
--- Laws of steps and rows: each is got back from the other; the kinds of rows, and the room that their numbers have.
-use Prim.Native.Nat.{ℕ, zero, suc, _^_, _≤_, _<_}
+-- Laws of steps and rows: each is got back from the other; the kinds of rows, the room that their numbers have, and rows that are read.
+use Prim.Native.Nat.{ℕ, zero, suc, _+_, _^_, _≤_, _<_}
 use mathlib.Core.Path.{_≡_, refl}
 use mathlib.Core.Bool.{Bool, false}
+use mathlib.Core.List.{List}
 use mathlib.Core.Logic.{⊎-elim}
 use native.Mathlib.Omega.{arith}
 use borrow.Author.Tests.{leb-false}
@@ -14,8 +15,10 @@ use Rattle.register.specs.declared.step.Step.the-variants.{Propose, Vote, Regis
 use Rattle.words.specs.Tests.{choose, either}
 use Rattle.words.proofs.Tests.{either-false-left, either-false-right}
 use Rattle.packed_log.specs.declared.row.Row.{Row}
+use Rattle.packed_log.specs.Bits.{field}
 use Rattle.packed_log.specs.Rows.{row, kindNumber, kindOf, rowOf, stepOf, Within}
 use Rattle.packed_log.specs.Widths.{width, fields}
+use Rattle.packed_log.specs.Items.{rowAt}
 use Rattle.packed_log.specs.Writing.{wide}
 use Rattle.packed_log.proofs.WidthLaws.{Other, other}
 
@@ -109,3 +112,14 @@ within r h =
       third = leb-false _ (r .third) (either-false-left (over 2 (r .third)) _ last);
       fourth = leb-false _ (r .fourth) (either-false-right (over 2 (r .third)) _ last);
     }
+
+-- four numbers of those widths, read one behind the other, are the row of their kind, and each has room in its column
+pub row-read : (log : List ℕ) (kind p w0 w1 w2 w3 : ℕ) → w0 ≡ width kind 0 → w1 ≡ width kind 1 → w2 ≡ width kind 2 → w3 ≡ width kind 3
+    → (a b c d : ℕ) → (a ≡ field log p w0) × (a < 2 ^ w0) → (b ≡ field log (p + w0) w1) × (b < 2 ^ w1)
+    → (c ≡ field log (p + w0 + w1) w2) × (c < 2 ^ w2) → (d ≡ field log (p + w0 + w1 + w2) w3) × (d < 2 ^ w3)
+    → (row kind a b c d ≡ rowAt log kind p) × Within (row kind a b c d)
+unfolding rowAt
+row-read log kind p w0 w1 w2 w3 e0 e1 e2 e3 a b c d ha hb hc hd = (
+  rw (ha .0, hb .0, hc .0, hd .0, e0, e1, e2, e3),
+  record { first = rw (← e0) (ha .1); second = rw (← e1) (hb .1); third = rw (← e2) (hc .1); fourth = rw (← e3) (hd .1) },
+)

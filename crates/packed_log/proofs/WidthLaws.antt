@@ -1,4 +1,4 @@
--- The table of widths: what its entries hold, and the numbers that are none of its kinds.
+-- The table of widths: what its entries hold and add up to, where columns of those widths end, and the numbers that are none of its kinds.
 use Prim.Native.Nat.{ℕ, zero, suc, _+_, _*_, _-_, _/_, _%_, _^_, _≤_, _<_}
 use mathlib.Core.Path.{_≡_, refl}
 use mathlib.Core.Bool.{Bool, true}
@@ -54,7 +54,7 @@ pub record Columns (p size w0 w1 w2 w3 : ℕ) : Type 0 where
   pub third : p + w0 + w1 + w2 ≤ size
   pub fourth : p + w0 + w1 + w2 + w3 ≤ size
 
--- it is so of the columns of a kind where the bits that are due end within it
+-- the columns of a kind end within the size where the bits that are due do
 pub columns : (kind p size w0 w1 w2 w3 : ℕ) → w0 ≡ width kind 0 → w1 ≡ width kind 1 → w2 ≡ width kind 2 → w3 ≡ width kind 3 → p + due kind ≤ size
     → Columns p size w0 w1 w2 w3
 unfolding due

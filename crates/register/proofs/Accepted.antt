@@ -29,7 +29,7 @@ unfolding trusted trustedIn
 trusted-below r q t = ltb-true q (r .n) (both-left _ _ t)
 
 -- a message in the inbox
-pub in-hand : (r : Register) (q m : ℕ) → notInHand r q m ≡ false → Placed r q m 2
+in-hand : (r : Register) (q m : ℕ) → notInHand r q m ≡ false → Placed r q m 2
 unfolding notInHand inInbox
 in-hand r q m h = placed r q m 1 (eqb-true _ 2 (not-false _ h))
 

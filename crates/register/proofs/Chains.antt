@@ -19,7 +19,7 @@ use Rattle.register.specs.Views.{notarised}
 use Rattle.register.specs.Chains.{chain, chainLength, valid, chainNotarised}
 
 -- a parent's number is smaller
-pub parent-lt : (r : Register) → Down (parentOf r)
+parent-lt : (r : Register) → Down (parentOf r)
 unfolding parentOf
 parent-lt r = parent-in-lt (r .parents) (r .last .0)
 
@@ -48,7 +48,7 @@ chain-induction : (r : Register) (P : ℕ → Type 0) → P 0 → ((b : ℕ) →
 chain-induction r = climb-induction (parentOf r) (parent-lt r)
 
 -- the length of the chain of genesis is 0
-pub length-genesis : (r : Register) → chainLength r 0 ≡ 0
+length-genesis : (r : Register) → chainLength r 0 ≡ 0
 unfolding chainLength
 length-genesis r = ap length (chain-genesis r)
 
@@ -79,6 +79,11 @@ unfolding chainNotarised valid
 notarised-parent r q b h n =
     both-make _ _ (every-parent r (λ x. ltb (epochOf r (parentOf r x)) (epochOf r x)) b h (both-left _ _ n))
     (every-parent r (notarised r q) b h (both-right _ _ n))
+
+-- the chain of genesis is notarised in every view
+pub genesis-notarised : (r : Register) (q : ℕ) → chainNotarised r q 0 ≡ true
+unfolding chainNotarised valid every both
+genesis-notarised r q = rw (chain-genesis r)
 
 -- every block of a notarised chain is notarised
 pub notarised-on : (r : Register) (q b x : ℕ) → chainNotarised r q b ≡ true → member x (chain r b) ≡ true → notarised r q x ≡ true

@@ -163,7 +163,7 @@ grows-moved r m q k low here =
           });
     }
 
--- the accepted steps
+-- the accepted steps; finalise is `grows-final` itself
 module _ (r : Register) where
   pub grows-propose : (office : Office) (parent : Block) (w : ℕ) → Grows r (propose r office parent w .effect)
   unfolding propose

@@ -95,12 +95,12 @@ module _ {r s : Register} (g : Grows r s) where
   length-kept b l = ap length (chain-same b l)
 
   -- a message keeps what it says
-  pub says-kept : (q b m : ℕ) → m < r .count → says s q b m ≡ says r q b m
+  says-kept : (q b m : ℕ) → m < r .count → says s q b m ≡ says r q b m
   unfolding says saysIn sentOf
   says-kept q b m l = ap (λ (x : Sent). both (eqb (x .signer .0) q) (eqb (x .block .0) b)) (g .messages m l)
 
   -- a signature that is in a view stays there
-  pub signed-kept : (q h b : ℕ) → signed r q h b ≡ true → signed s q h b ≡ true
+  signed-kept : (q h b : ℕ) → signed r q h b ≡ true → signed s q h b ≡ true
   unfolding signed
   signed-kept q h b t =
       let f : (m : ℕ) × (m < r .count) × (both (inView r q m) (says r h b m) ≡ true) = any-at _ (r .count) t in
@@ -108,7 +108,7 @@ module _ {r s : Register} (g : Grows r s) where
       (both-make _ _ (g .views q (f .0) (both-left _ _ (f .2))) (says-kept h b (f .0) (f .1) ∙ both-right _ _ (f .2)))
 
   -- a block that is notarised in a view stays so
-  pub notarised-kept : (q b : ℕ) → notarised r q b ≡ true → notarised s q b ≡ true
+  notarised-kept : (q b : ℕ) → notarised r q b ≡ true → notarised s q b ≡ true
   unfolding notarised signers tally
   notarised-kept q b t =
       let was : ℕ = weigh unit (r .n) (λ h. signed r q h b) in

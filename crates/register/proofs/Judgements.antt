@@ -51,7 +51,7 @@ pub still-last : (r : Register) (still : Change) → r .last .0 ≤ 255 → stil
 unfolding stillOf headOf
 still-last r still small is = subst⁻¹ (λ (s : Change). s .head .last .0 ≤ 255) is small
 
--- what a finalise step reads of it: a chain that is notarised in the register is so there
+-- a chain that is notarised in the register is so by the columns that a finalise step reads
 pub still-notarised : (r : Register) (still : Change) (q b : ℕ) → still ≡ stillOf r → chainNotarised r q b ≡ true
     → chainNotarised (whole (still .head) [] (r .parents) (r .epochs) [] [] (r .signers) (r .subjects) (r .places) []) q b ≡ true
 unfolding whole stillOf headOf chainNotarised valid notarised signers signed inView says stage trusted chain parentOf epochOf

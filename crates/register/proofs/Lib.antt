@@ -1,4 +1,4 @@
--- The laws of the definitions in specs/, a file for each.
+-- The laws of the definitions in specs/, by topic.
 pub mod Tables
 pub mod Chains
 pub mod Finalising

@@ -68,7 +68,7 @@ module _ (r : Register) (few : r .count ≤ 1024) (offices : r .n ≤ 32) (q : �
   chain-notarised-by b =
       every-both (λ x. ltb (epochOf r (parentOf r x)) (epochOf r x)) (notarised r q) (chain r b) ∙ simp notarised-in
 
-  -- or where those above a block are whose own chain is known to be notarised there
+  -- or, where the base's chain is notarised there, where each block above the base is sound
   pub notarised-above : (base b : ℕ) → chainNotarised r q base ≡ true
       → chainNotarised r q b ≡ every (soundOf r q) (above base (chainBy (parentIn (r .parents) (r .last .0)) b))
   notarised-above base b known =

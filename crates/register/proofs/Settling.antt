@@ -10,8 +10,8 @@ use borrow.Author.Tests.{eqb-true, eq-eqb, ltb-true, ltb-false, not-false}
 use lib.Dec.{eqb, ltb}
 use lib.ListN.{getD, set, length, List·getD-eq-default, length-set}
 use lib.Seq.{getD-set-same, getD-set-other}
-use Rattle.words.specs.Tests.{choose, both, either, every}
-use Rattle.words.specs.Digits.{digit}
+use Rattle.words.specs.Tests.{choose, both, either}
+use Rattle.words.specs.Digits.{digit, withMember}
 use Rattle.words.specs.Refusals.{Refusal, first}
 use Rattle.words.proofs.Tests.{both-left, both-right, either-cases}
 use Rattle.words.proofs.Digits.{digit-zero, bit-set}
@@ -27,24 +27,19 @@ use Rattle.register.specs.declared.change.Change.{Change}
 use Rattle.register.specs.declared.table.Register.{Register}
 use Rattle.register.specs.declared.table.Stepped.{Stepped}
 use Rattle.register.specs.Tables.{parentOf, finalOf}
-use Rattle.register.specs.Chains.{valid, chainNotarised}
+use Rattle.register.specs.Chains.{chainNotarised}
 use Rattle.register.specs.Fitness.{countsFit}
 use Rattle.register.specs.Refusals.{noBlock, notFinal}
 use Rattle.register.specs.Effects.{withBlock, withSent, withMoved, withActed, withFinal, withNextEpoch}
 use Rattle.register.specs.Steps.{propose, vote, register, finalise, deliver, badSend, draft, advance, ruleOf, refusal, judged, quickRule}
 use Rattle.register.specs.Changes.{written, stepped}
 use Rattle.register.specs.Settled.{Settled, AllSettled, settledIn, withSettled}
-use Rattle.register.proofs.Chains.{parent-le, chain-genesis, notarised-parent}
+use Rattle.register.proofs.Chains.{parent-le, genesis-notarised, notarised-parent}
 use Rattle.register.proofs.Finalising.{Consecutive, consecutive}
 use Rattle.register.proofs.Naming.{named-keeps}
 use Rattle.register.proofs.Judging.{passed, judged-has}
 use Rattle.register.proofs.Growth.{Grows, chain-notarised-kept}
 use Rattle.register.proofs.Growing.{grows-final, grows-propose, grows-vote, grows-register, grows-deliver, grows-bad-send, grows-draft, grows-advance}
-
--- the chain of genesis is notarised in every view
-genesis-notarised : (r : Register) (q : ℕ) → chainNotarised r q 0 ≡ true
-unfolding chainNotarised valid every both
-genesis-notarised r q = rw (chain-genesis r)
 
 -- the final blocks of nobody are settled
 pub none-settled : (r : Register) → AllSettled r 0
@@ -58,7 +53,7 @@ settled-kept {r} {s} q g same t =
       notarised = subst⁻¹ (λ (b : ℕ). chainNotarised s q b ≡ true) same (chain-notarised-kept g q (finalOf r q) (t .made) (t .notarised));
     }
 
--- where it becomes genesis, or a block whose chain is notarised, it is settled
+-- where it becomes a block whose chain is notarised, it is settled
 settled-new : (r : Register) (q c : ℕ) → c ≤ r .last .0 → chainNotarised r q c ≡ true → Settled (withFinal r q c) q
 unfolding withFinal finalOf
 settled-new r q c low n = by (decLt q (length (r .finals)))
@@ -124,18 +119,18 @@ settled-finalise r office newest h =
     let three : Consecutive r q b (parentOf r b) (parentOf r (parentOf r b)) = consecutive r q b (not-false _ (cleared 20 tests h)) in
     settled-new r q (parentOf r b) (omega (arith, parent-le r b)) (notarised-parent r q b (three .newest) (three .chain))
 
--- and every other office's stays
-settled-others : (r : Register) (office : Office) (newest : Block) (q : ℕ) → first (finalise r office newest .tests) ≡ 0 → Settled r q
+-- after it every settled final block is settled, that of its own office too
+settled-any : (r : Register) (office : Office) (newest : Block) (q : ℕ) → first (finalise r office newest .tests) ≡ 0 → Settled r q
     → Settled (finalise r office newest .effect) q
 unfolding finalise withFinal finalOf
-settled-others r office newest q h t =
+settled-any r office newest q h t =
     elim (ℕ-discrete q (office .0)) as (λ _. Settled (finalise r office newest .effect) q) [
       | yes e ↦ subst⁻¹ (Settled (finalise r office newest .effect)) e (settled-finalise r office newest h)
       | no d ↦ settled-kept q (grows-final r (office .0) (parentOf r (newest .0)))
           (getD-set-other (r .finals) (office .0) q (parentOf r (newest .0)) 0 d) t
     ]
 
--- the final block of a finalise step's office, where the step is accepted
+-- the same of the register that an accepted finalise step gives
 settled-accepted : (r : Register) (fits : Bool) (office : Office) (newest : Block) → refusal fits (finalise r office newest) ≡ 0
     → Settled (judged fits r (finalise r office newest) .register) (office .0)
 unfolding judged choose
@@ -148,7 +143,7 @@ unfolding ruleOf
 settled-step r fits (steps.Propose office parent w) q t = judged-has (λ s. Settled s q) r fits _ t (λ h. settled-propose r q t office parent w)
 settled-step r fits (steps.Vote office message) q t = judged-has (λ s. Settled s q) r fits _ t (settled-vote r q t office message)
 settled-step r fits (steps.Register office message) q t = judged-has (λ s. Settled s q) r fits _ t (settled-register r q t office message)
-settled-step r fits (steps.Finalise office newest) q t = judged-has (λ s. Settled s q) r fits _ t (λ h. settled-others r office newest q h t)
+settled-step r fits (steps.Finalise office newest) q t = judged-has (λ s. Settled s q) r fits _ t (λ h. settled-any r office newest q h t)
 settled-step r fits (steps.Deliver message office) q t = judged-has (λ s. Settled s q) r fits _ t (settled-deliver r q t message office)
 settled-step r fits (steps.BadSend sender kind signer about) q t =
     judged-has (λ s. Settled s q) r fits _ t (λ h. settled-bad-send r q t sender kind signer about)
@@ -158,7 +153,7 @@ settled-step r fits steps.Advance q t = judged-has (λ s. Settled s q) r fits _ 
 -- and so are those of a set, with the office that the step, where it is accepted, makes a block final for
 all-settled-step : (r : Register) (fits : Bool) (all : ℕ) (step : Step) (accepted : Bool) → eqb (refusal fits (ruleOf r step)) 0 ≡ accepted
     → AllSettled r all → AllSettled (judged fits r (ruleOf r step) .register) (choose accepted (withSettled all step) all)
-unfolding choose withSettled ruleOf
+unfolding choose withSettled withMember ruleOf
 all-settled-step r fits all step false e a q l h = settled-step r fits step q (a q l h)
 all-settled-step r fits all (steps.Propose office parent w) true e a q l h = settled-step r fits (steps.Propose office parent w) q (a q l h)
 all-settled-step r fits all (steps.Vote office message) true e a q l h = settled-step r fits (steps.Vote office message) q (a q l h)
@@ -185,7 +180,7 @@ all-settled-next r all step c a answer =
     (subst⁻¹ (λ (x : ℕ). AllSettled (quickRule r step .register) (choose (eqb x 0) (withSettled all step) all)) k
     (all-settled-step r (countsFit r) all step (eqb (quickRule r step .refusal) 0) refl a))
 
--- down to that block an office's chain is known to be notarised
+-- the block that `settledIn` gives has a chain that is notarised in the office's view
 pub settled-notarised : (r : Register) (all q : ℕ) → AllSettled r all → chainNotarised r q (settledIn (r .finals) all q) ≡ true
 unfolding settledIn finalOf
 settled-notarised r all q a = by (both (ltb q 32) (eqb (digit 2 all q) 1)) refl

@@ -6,7 +6,7 @@ ghost use Rattle.words.specs.Tests.{choose};
 ghost use Rattle.register.specs.Settled.{settledIn, withSettled};
 use crate::step::Step;
 
-// Office q's final block, where it is in the set; else genesis.
+// The final block of office q where the office is in the set; else genesis.
 pub(crate) fn settled_at<'a>(finals: &'a [u8; 32], settled: u32, q: u8) -> u8
     ensures { λ r. ⌜ r ≡ settledIn (now (finals .entry)) settled q ⌝ }
 {
@@ -19,7 +19,7 @@ pub(crate) fn settled_at<'a>(finals: &'a [u8; 32], settled: u32, q: u8) -> u8
     finals[q as usize]
 }
 
-// The set after one more step, which got that refusal.
+// The set after one more step, which got that refusal, 0 where it was accepted.
 pub(crate) fn settled_after(settled: u32, step: Step, refusal: u8) -> u32
     ensures { λ r. ⌜ r ≡ choose (eqb refusal 0) (withSettled settled step) settled ⌝ }
 {

@@ -21,7 +21,7 @@ use Rattle.packed_log.proofs.ItemsReadBack.{chosen}
 use Rattle.report.specs.Bodies.{Body, begun, bodyFrom, bodyAt}
 
 -- what an item that is read at position p keeps to: a step takes four bits or more of a log that is not too long; a refusal has a number
-unfoldable pub Sound : (log : List ℕ) → (p next : ℕ) → Item → Type 0
+unfoldable Sound : (log : List ℕ) → (p next : ℕ) → Item → Type 0
 Sound log p next (items.Step s) = (p + 4 ≤ next) × (next ≤ 8 * length log) × (length log ≤ 65536)
 Sound log p next items.End = record {}
 Sound log p next (items.Refused number) = 0 < number
@@ -39,7 +39,7 @@ module _ (log : List ℕ) (p : ℕ) where
       (λ enough. let room : due kind ≤ left log (p + 4) = ltb-false (left log (p + 4)) (due kind) enough in (omega arith, omega arith, small))
 
   -- so does every item
-  pub item-sound : Sound log p (itemAt log p .next) (itemAt log p .item)
+  item-sound : Sound log p (itemAt log p .next) (itemAt log p .item)
   unfolding itemAt kindAt endAt Sound
   item-sound =
       let k : ℕ = field log p 4 in
@@ -68,7 +68,7 @@ fuel-same (suc f) (suc g) log p enough more =
     (λ less. fuel-same f g log (itemAt log p .next) (omega arith) (omega arith))
 
 -- a body is its first item with the body behind that item
-pub body-begins : (log : List ℕ) (p : ℕ) → bodyAt log p ≡ begun (itemAt log p .item) (bodyAt log (itemAt log p .next))
+body-begins : (log : List ℕ) (p : ℕ) → bodyAt log p ≡ begun (itemAt log p .item) (bodyAt log (itemAt log p .next))
 unfolding bodyAt bodyFrom
 body-begins log p =
     let next : ℕ = itemAt log p .next in

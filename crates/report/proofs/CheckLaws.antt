@@ -22,7 +22,7 @@ use Rattle.report.proofs.TextLaws.{same-size, sets-front}
 use Rattle.report.proofs.RunLaws.{same-lines}
 
 -- a log that is refused has its number as its report
-pub report-refused : (log : List ℕ) (fault : ℕ) → fault ≡ faultOf log → (fault ≡ 0 → ⊥) → reportOf log ≡ logLine fault
+report-refused : (log : List ℕ) (fault : ℕ) → fault ≡ faultOf log → (fault ≡ 0 → ⊥) → reportOf log ≡ logLine fault
 unfolding reportOf choose
 report-refused log fault same bad = rw (← same, ne-eqb fault 0 bad)
 
@@ -44,7 +44,7 @@ quick-answers log clear =
     rw (opens .1) (quick-agrees n trust schedule (bodyOf log .steps) (opens .0))
 
 -- a log that is not refused has the lines of its steps and of the offices as its report, by the rule that is run
-pub report-run : (log : List ℕ) → faultOf log ≡ 0 → reportOf log ≡ runLines quickRule (openingIn log .register) 1 (bodyOf log .steps)
+report-run : (log : List ℕ) → faultOf log ≡ 0 → reportOf log ≡ runLines quickRule (openingIn log .register) 1 (bodyOf log .steps)
 unfolding reportOf faultOf choose
 report-run log none =
     let clear : openingIn log .refusal ≡ 0 = opening-clear (eqb (openingIn log .refusal) 0) (openingIn log .refusal) (bodyOf log .refusal) refl none in

@@ -20,25 +20,25 @@ use Rattle.report.specs.Batches.{batchLines}
 
 module _ (rule : Register → Step → Stepped) where
   -- the answers to steps in two parts
-  pub answers-append : (r : Register) (xs ys : List Step) → answers rule r (xs ++ ys) ≡ answers rule r xs ++ answers rule (lastOf rule r xs) ys
+  answers-append : (r : Register) (xs ys : List Step) → answers rule r (xs ++ ys) ≡ answers rule r xs ++ answers rule (lastOf rule r xs) ys
   unfolding answers lastOf
   answers-append r [] ys = refl
   answers-append r (x ∷ xs) ys = ap (λ rest. rule r x ∷ rest) (answers-append (rule r x .register) xs ys)
 
   -- the register after steps in two parts
-  pub last-append : (r : Register) (xs ys : List Step) → lastOf rule r (xs ++ ys) ≡ lastOf rule (lastOf rule r xs) ys
+  last-append : (r : Register) (xs ys : List Step) → lastOf rule r (xs ++ ys) ≡ lastOf rule (lastOf rule r xs) ys
   unfolding lastOf
   last-append r [] ys = refl
   last-append r (x ∷ xs) ys = last-append (rule r x .register) xs ys
 
   -- there are as many answers as steps
-  pub length-answers : (r : Register) (xs : List Step) → length (answers rule r xs) ≡ length xs
+  length-answers : (r : Register) (xs : List Step) → length (answers rule r xs) ≡ length xs
   unfolding answers
   length-answers r [] = refl
   length-answers r (x ∷ xs) = ap suc (length-answers (rule r x .register) xs)
 
 -- the lines of answers in two parts
-pub lines-append : (place : ℕ) (xs ys : List Stepped) → stepLines place (xs ++ ys) ≡ stepLines place xs ++ stepLines (place + length xs) ys
+lines-append : (place : ℕ) (xs ys : List Stepped) → stepLines place (xs ++ ys) ≡ stepLines place xs ++ stepLines (place + length xs) ys
 unfolding stepLines
 lines-append place [] ys = rw add-zero
 lines-append place (x ∷ xs) ys =

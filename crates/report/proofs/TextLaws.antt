@@ -30,7 +30,7 @@ pub sets-front : (buffer t : List ℕ) → length t ≤ length buffer → sets b
 sets-front buffer t h = rw zero-add at (sets-eq t buffer 0 (rw zero-add h))
 
 -- the byte behind a text may be laid before the text
-pub byte-first : (l : List ℕ) (p : ℕ) (t : List ℕ) (b : ℕ) → sets (set l (p + length t) b) p t ≡ sets l p (t ++ (b ∷ []))
+byte-first : (l : List ℕ) (p : ℕ) (t : List ℕ) (b : ℕ) → sets (set l (p + length t) b) p t ≡ sets l p (t ++ (b ∷ []))
 byte-first l p [] b = rw add-zero
 byte-first l p (a ∷ t) b =
     rw (set-comm l (p + suc (length t)) p b a (λ e. omega arith), add-suc, ← suc-add) (byte-first (set l p a) (suc p) t b)
@@ -51,7 +51,7 @@ unfolding decimal digitsBy choose
 decimal-one n h = rw (lt-ltb n 10 h)
 
 -- any other is its tenth in decimal, and its last digit
-pub decimal-more : (n : ℕ) → n < 2 ^ 64 → 10 ≤ n → decimal n ≡ decimal (n / 10) ++ ((48 + n % 10) ∷ [])
+decimal-more : (n : ℕ) → n < 2 ^ 64 → 10 ≤ n → decimal n ≡ decimal (n / 10) ++ ((48 + n % 10) ∷ [])
 unfolding decimal digitsBy choose
 decimal-more n fits h = rw (le-ltb n 10 h, digits-more 18 (n / 10) (omega arith))
 

@@ -1,5 +1,5 @@
--- Gathering signers, of all blocks or of one: which messages the sets hold at each turn of the loop, and that the sets of all messages say what
--- the columns do.
+-- Gathering signers, of all blocks or of one: by which messages the sets hold signers at each turn of the loop, and that the sets by all messages
+-- say what the columns do.
 use Prim.Native.Nat.{ℕ, zero, suc, _+_, _-_, _<_, _≤_}
 use mathlib.Core.Path.{_≡_, refl, sym, ap, _∙_}
 use mathlib.Core.Bool.{Bool, true, false}
@@ -14,7 +14,7 @@ use lib.Dec.{eqb, ltb, leb}
 use lib.ListN.{length, length-set, getD, set, replicate, getD-replicate}
 use lib.Seq.{getD-set-same, getD-set-other}
 use Rattle.quorum.specs.Enough.{enough}
-use Rattle.words.specs.Digits.{digit, fill}
+use Rattle.words.specs.Digits.{digit, fill, withMember}
 use Rattle.words.specs.Sums.{tally}
 use Rattle.words.specs.Tests.{choose, both, either, any}
 use Rattle.words.proofs.Tests.{any-fails, any-none, any-same, any-with, both-left, both-false, both-fails, both-all, both-none, decided, either-left, either-none, either-right}
@@ -34,6 +34,11 @@ set-ext p q same =
 in-set : (p : ℕ → Bool) (s : ℕ) → s < 32 → eqb (digit 2 (setOf p) s) 1 ≡ p s
 unfolding setOf
 in-set p s h = bit-set 32 p s h
+
+-- the set with one office more is that of those in it and of that one
+member-set : (w q : ℕ) → withMember w q ≡ setOf (λ s. either (eqb (digit 2 w s) 1) (eqb q s))
+unfolding withMember setOf
+member-set w q = refl
 
 -- a message below the one or from the other up
 unfoldable pub outside : (low high : ℕ) → ℕ → Bool
@@ -108,7 +113,7 @@ module _ (places signers subjects : List ℕ) (count q : ℕ) where
   -- one that is there adds its signer to those of the block x that it is about
   gather-into : (picked : ℕ → Bool) (m : ℕ) (sets : List ℕ) (x w : ℕ) → m < count → eqb (digit 4 (getD places m 0) q) view ≡ true
       → length sets ≡ 256 → x ≡ getD subjects m 0 → x < 256
-      → w ≡ setOf (λ s. either (eqb (digit 2 (getD sets x 0) s) 1) (eqb (getD signers m 0) s))
+      → w ≡ withMember (getD sets x 0) (getD signers m 0)
       → Gathered picked sets → Gathered (λ k. either (picked k) (eqb k m)) (set sets x w)
   unfolding both saysIn
   gather-into picked m sets x w below inside whole about within e h b l =
@@ -116,6 +121,7 @@ module _ (places signers subjects : List ℕ) (count q : ℕ) where
         | yes here ↦ rw here
             (getD-set-same sets x w 0 (omega arith)
             ∙ e
+            ∙ member-set (getD sets x 0) (getD signers m 0)
             ∙ set-ext _ (signed-by (λ k. either (picked k) (eqb k m)) x)
             (λ s k. rw (any-with picked (signs places signers subjects q s x) count m below, inside, eq-eqb (getD subjects m 0) x (sym about), both-all, h x within, in-set (signed-by picked x) s k)))
         | no there ↦ getD-set-other sets x b w 0 there
@@ -136,7 +142,7 @@ module _ (places signers subjects : List ℕ) (count q : ℕ) where
 
   -- a message that was noted, in the view or not
   pub gather-noted : (picked : ℕ → Bool) (m : ℕ) (sets noted : List ℕ) → m < count → length sets ≡ 256 → Gathered picked sets
-      → (noted ≡ choose (both (eqb (digit 4 (getD places m 0) q) view) (ltb (getD signers m 0) 32)) (set sets (getD subjects m 0) (setOf (λ s. either (eqb (digit 2 (getD sets (getD subjects m 0) 0) s) 1) (eqb (getD signers m 0) s)))) sets) × (getD subjects m 0 < 256)
+      → (noted ≡ choose (both (eqb (digit 4 (getD places m 0) q) view) (ltb (getD signers m 0) 32)) (set sets (getD subjects m 0) (withMember (getD sets (getD subjects m 0) 0) (getD signers m 0))) sets) × (getD subjects m 0 < 256)
       → Gathered (λ k. either (picked k) (eqb k m)) noted × (length noted ≡ 256)
   unfolding choose
   gather-noted picked m sets noted below whole h (n, within) =
@@ -164,7 +170,7 @@ module _ (places signers subjects : List ℕ) (count q : ℕ) where
       ∙ set-ext (signed-by (outside low high) b) (λ s. signedIn places signers subjects count q s b)
       (λ s below. any-same _ _ count (λ m within. rw (outside-all low high m l)))
 
--- two sets, one of which a test takes, are one set
+-- to choose between two sets is the set of the choice between their tests
 choose-set : (t : Bool) (p q : ℕ → Bool) → choose t (setOf p) (setOf q) ≡ setOf (λ s. choose t (p s) (q s))
 unfolding choose
 choose-set true p q = refl
@@ -179,18 +185,18 @@ joins false true mine old = rw (both-none, either-none)
 joins false false mine old = rw either-none
 
 module _ (places signers subjects : List ℕ) (q b : ℕ) where
-  -- no office has signed by none of the messages
+  -- no messages, no signers
   pub signers-none : 0 ≡ setOf (λ s. signedIn places signers subjects 0 q s b)
   unfolding signedIn any setOf fill choose
   signers-none = refl
 
-  -- the signers by the messages before a chunk and its first i, and the next
+  -- one message more: the signers by the messages before a chunk and its first i + 1
   pub signers-next : (from i w next : ℕ) → w ≡ setOf (λ s. signedIn places signers subjects (from + i) q s b)
-      → next ≡ choose (both (eqb (getD subjects (from + i) 0) b) (eqb (digit 4 (getD places (from + i) 0) q) view)) (setOf (λ s. either (eqb (digit 2 w s) 1) (eqb (getD signers (from + i) 0) s))) w
+      → next ≡ choose (both (eqb (getD subjects (from + i) 0) b) (eqb (digit 4 (getD places (from + i) 0) q) view)) (withMember w (getD signers (from + i) 0)) w
       → next ≡ setOf (λ s. signedIn places signers subjects (from + (i + 1)) q s b)
   unfolding signedIn saysIn any
   signers-next from i w next h e =
-      rw (e, h, choose-set _ _ _)
+      rw (e, member-set w (getD signers (from + i) 0), h, choose-set _ _ _)
       (set-ext _ (λ s. signedIn places signers subjects (from + (i + 1)) q s b)
       (λ s l. rw (in-set (λ s. signedIn places signers subjects (from + i) q s b) s l, add-one, add-suc) (joins _ _ _ _)))
 

@@ -99,7 +99,7 @@ module _ (parent : ℕ → ℕ) (down : Down parent) where
   length-by-step b h = rw (chain-by-step parent down b h) (omega arith)
 
   -- a chain is no longer than its last block's number
-  pub length-by-most : (b : ℕ) → length (chainBy parent b) ≤ b
+  length-by-most : (b : ℕ) → length (chainBy parent b) ≤ b
   length-by-most =
       climb-induction parent down (λ (b : ℕ). length (chainBy parent b) ≤ b) (omega (arith, ap length (chain-by-genesis parent)))
       (λ b h ih. omega (arith, ih, length-by-step b h, down b h))
@@ -115,7 +115,7 @@ module _ (parent : ℕ → ℕ) (down : Down parent) where
           | no over ↦ rw (chain-by-step parent down at (omega (arith, over)), rw (ne-eqb at 0 over) at end)
         ]
 
-    -- before it the block is, and then those of its parent's chain
+    -- elsewhere: the block itself, and then those of its parent's chain above the base
     pub above-next : (at : ℕ) → either (eqb at 0) (eqb at base) ≡ false → above base (chainBy parent at) ≡ at ∷ above base (chainBy parent (parent at))
     unfolding above choose
     above-next at more = rw (chain-by-step parent down at (unmet-above at (eqb at base) more), either-false-right (eqb at 0) (eqb at base) more)
@@ -127,7 +127,7 @@ module _ (parent : ℕ → ℕ) (down : Down parent) where
         climb-induction parent down P (end 0 (either-left (eqb 0 0) (eqb 0 base) (eq-eqb 0 0 refl)))
         (λ b h ih. ⊎-elim (end b) (λ more. step b more ih) (decided (either (eqb b 0) (eqb b base))))
 
-    -- flags that agree on the blocks below 256 agree on every such climb of theirs
+    -- two tests of blocks that agree below 256 agree on every such climb
     pub sound-same : (p q : ℕ → Bool) → ((b : ℕ) → 0 < b → b < 256 → p b ≡ q b)
         → (b : ℕ) → b < 256 → every p (above base (chainBy parent b)) ≡ every q (above base (chainBy parent b))
     unfolding every
@@ -138,7 +138,7 @@ module _ (parent : ℕ → ℕ) (down : Down parent) where
         let h : 0 < b = unmet-above b (eqb b base) more in
         rw (above-next b more, same b h l, ih (omega (arith, down b h))))
 
-  -- where the base's chain is of sound blocks alone, b's is where its blocks above the base are
+  -- where the base's chain is of sound blocks alone, b's chain is so exactly where its blocks above the base are sound
   pub sound-above : (sound : ℕ → Bool) (base : ℕ) → every sound (chainBy parent base) ≡ true
       → (b : ℕ) → every sound (above base (chainBy parent b)) ≡ every sound (chainBy parent b)
   unfolding every

@@ -17,9 +17,6 @@ use crate::scan::epoch_at;
 use crate::scan::message_count;
 use crate::scan::parent_at;
 
-// So many blocks of a chain are tested one by one, before the signers of all blocks are gathered.
-const SINGLE: u8 = 2;
-
 // The length of block b's chain, genesis not counted.
 pub fn length_of<'a>(parents: &'a [u8; 256], last: u8, b: u8) -> u8
     ensures { λ r. ⌜ r ≡ length (chainBy (parentIn (now (parents .entry)) last) b) ⌝ }
@@ -33,11 +30,14 @@ pub fn length_of<'a>(parents: &'a [u8; 256], last: u8, b: u8) -> u8
     climbed
 }
 
+// So many blocks of a chain are tested one by one, before the signers of all blocks are gathered.
+const TESTED_SINGLY: u8 = 2;
+
 // Every office: enough signers, however many offices there are.
 const EVERYONE: u32 = 0xFFFF_FFFF;
 
-// A block is sound that has that set of signers and that epoch, where its parent has the epoch below: its epoch is greater, and its signers
-// are enough. One set is known to be enough: the blocks of a chain often have the same signers, which are then not counted again.
+// A block with that set of signers and that epoch, on a parent of the epoch `below`, is sound: its epoch is greater, and its signers are
+// enough. One set is known to be enough: the blocks of a chain often have the same signers, which are then not counted again.
 fn is_sound(set: u32, n: u8, below: u16, epoch: u16, known: u32) -> bool
     requires { ⌜ enough (tally n (λ s. eqb (digit 2 known s) 1)) n ≡ true ⌝ }
     ensures { λ r. ⌜ r ≡ both (ltb below epoch) (enough (tally n (λ s. eqb (digit 2 set s) 1)) n) ⌝ }
@@ -179,10 +179,10 @@ fn is_sound_in<'a>(
     is_sound(set, n, below, epoch, EVERYONE)
 }
 
-// Every block of block b's chain above the base is sound in office q's view; where the chain does not have that block, every block of it: it is
-// then notarised there. Whoever knows the base's chain to be notarised learns whether b's is. The newest blocks are tested one by one: they are
-// those that lack signers, and often all that there are above the base.
-pub fn is_notarised<'a>(
+// Every block of block b's chain above block `base` is sound in office q's view; where `base` is genesis or not on the chain, every block of it.
+// Where the base's chain is notarised there, this says whether b's is. The newest blocks are tested one by one: they are the likeliest to lack
+// signers, and often all that there are above the base.
+pub fn is_notarised_above<'a>(
     n: u8,
     last: u8,
     count: usize,
@@ -201,7 +201,7 @@ pub fn is_notarised<'a>(
     let sent = message_count(count);
     let mut at = b;
     let mut tested = 0;
-    while tested < SINGLE {
+    while tested < TESTED_SINGLY {
         if is_end(at, base) {
             return true;
         }

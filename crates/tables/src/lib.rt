@@ -6,7 +6,7 @@ mod scan;
 mod stage;
 
 pub use chain::is_longest;
-pub use chain::is_notarised;
+pub use chain::is_notarised_above;
 pub use chain::length_of;
 pub use scan::epoch_at;
 pub use scan::in_history;

@@ -3,18 +3,18 @@ ghost use mathlib.Core.Path.{_≡_};
 ghost use Prim.Native.Nat.{ℕ, _+_, _≤_, _<_};
 ghost use lib.Dec.{eqb, ltb};
 ghost use lib.ListN.{getD, set};
-ghost use Rattle.words.specs.Tests.{choose, both, either};
-ghost use Rattle.words.specs.Digits.{digit};
+ghost use Rattle.words.specs.Tests.{choose, both};
+ghost use Rattle.words.specs.Digits.{digit, withMember};
 ghost use Rattle.tables.specs.Messages.{view};
 ghost use Rattle.tables.specs.Searches.{signedIn, setOf};
 use crate::scan::CHUNK;
 use crate::scan::chunk_about;
 use crate::scan::chunk_size;
 
-// One message more: where it is in office q's view, its last stage, its signer is among the signers of its block. A signer from 32 up is no
+// One message more: where it is in office q's view, the last stage, its signer is among the signers of its block. A signer from 32 up is no
 // office, and is left out. A block's number is below 256, which a caller that has it from a column learns here.
 fn note(sets: &mut [u32; 256], place: u64, q: u8, signer: u8, subject: u8)
-    ensures { λ _. ⌜ (now (sets .exit) ≡ choose (both (eqb (digit 4 place q) view) (ltb signer 32)) (set (now (sets .entry)) subject (setOf (λ s. either (eqb (digit 2 (getD (now (sets .entry)) subject 0) s) 1) (eqb signer s)))) (now (sets .entry))) × (subject < 256) ⌝ }
+    ensures { λ _. ⌜ (now (sets .exit) ≡ choose (both (eqb (digit 4 place q) view) (ltb signer 32)) (set (now (sets .entry)) subject (withMember (getD (now (sets .entry)) subject 0) signer)) (now (sets .entry))) × (subject < 256) ⌝ }
 {
     if words::is_last_stage(place, q) & (signer < 32) {
         let b = subject as usize;
@@ -46,9 +46,9 @@ pub(crate) fn gather<'a>(
     sets
 }
 
-// The set with one more message's signer, where the message is about block b and in office q's view, its last stage.
+// The set with one more message's signer, where the message is about block b and in office q's view, the last stage; else the set as it is.
 fn with_signer(set: u32, place: u64, q: u8, signer: u8, subject: u8, b: u8) -> u32
-    ensures { λ r. ⌜ r ≡ choose (both (eqb subject b) (eqb (digit 4 place q) view)) (setOf (λ s. either (eqb (digit 2 set s) 1) (eqb signer s))) set ⌝ }
+    ensures { λ r. ⌜ r ≡ choose (both (eqb subject b) (eqb (digit 4 place q) view)) (withMember set signer) set ⌝ }
 {
     if subject != b {
         return set;

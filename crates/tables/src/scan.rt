@@ -119,7 +119,8 @@ pub fn in_history<'a>(
     found
 }
 
-// One of the messages of the chunk that starts at `from` is about block b. No branch in the loop, so that many entries are compared at once.
+// One of the messages of the chunk that starts at `from` is about block b. The loop has no branch, so that many entries are
+// compared at once.
 pub(crate) fn chunk_about<'a>(subjects: &'a [u8; 1024], from: usize, b: u8) -> bool
     requires { ⌜ from ≤ 960 ⌝ }
     ensures { λ r. ⌜ r ≡ any 64 (λ i. eqb (getD (now (subjects .entry)) (from + i) 0) b) ⌝ }
@@ -133,8 +134,8 @@ pub(crate) fn chunk_about<'a>(subjects: &'a [u8; 1024], from: usize, b: u8) -> b
     found
 }
 
-// One of the first `size` messages of that chunk is in office q's view, their last stage, and has that signer and that block. The places are read
-// only where the chunk has a message about that block at all.
+// One of the first `size` messages of that chunk is in office q's view, the last stage, and has that signer and that block. Signers and places are
+// read only where the chunk has a message about that block at all.
 fn chunk_signed<'a>(
     places: &'a [u64; 1024],
     signers: &'a [u8; 1024],

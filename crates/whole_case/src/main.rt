@@ -128,7 +128,7 @@ fn unfit_messages(register: Register) {
     unfit(b"1025 messages", r);
 }
 
-// Prints the trust word of an opening of three offices with that one.
+// Prints the trust word that an opening of three offices stores of the given one.
 fn trust_line(trust: u32) {
     print(b"trust ");
     number(Register::open(3, trust, b"\x00").register.trust as u64);

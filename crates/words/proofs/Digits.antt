@@ -88,7 +88,7 @@ raise-lt b w q n room h fit =
     rw one-mul at (div-lt-iff-lt-mul {x = raise b w q} {y = 1} pos .0 (omega arith))
 
 -- a word is below the power of its places
-pub fill-lt : (b n : ℕ) (f : ℕ → ℕ) → ((q : ℕ) → f q < b) → fill b n f < b ^ n
+fill-lt : (b n : ℕ) (f : ℕ → ℕ) → ((q : ℕ) → f q < b) → fill b n f < b ^ n
 unfolding fill
 fill-lt b zero f small = omega (arith, pow-zero b)
 fill-lt b (suc n) f small = rw (add-comm, pow-succ') (digits-lt (small n) (fill-lt b n f small))
@@ -242,7 +242,7 @@ pub bit-set : (n : ℕ) (p : ℕ → Bool) (q : ℕ) → q < n → eqb (digit 2 
 bit-set n p q h = rw (digit-fill 2 n (λ k. choose (p k) 1 0) (λ k. chosen-lt (p k)) q h) (bit-chosen (p q))
 
 -- a word of n bits is the set of the numbers of which a test holds, where its bits say what the test says
-pub set-of-bits : (n w : ℕ) (p : ℕ → Bool) → w < 2 ^ n → ((q : ℕ) → q < n → eqb (digit 2 w q) 1 ≡ p q)
+set-of-bits : (n w : ℕ) (p : ℕ → Bool) → w < 2 ^ n → ((q : ℕ) → q < n → eqb (digit 2 w q) 1 ≡ p q)
     → w ≡ fill 2 n (λ k. choose (p k) 1 0)
 set-of-bits n w p fit same =
     sym (fill-whole 2 n n w (omega arith) fit (omega arith))

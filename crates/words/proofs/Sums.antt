@@ -37,7 +37,7 @@ module _ (w : ℕ → ℕ) where
   split false false x = omega arith
 
   -- two sets weigh at most all numbers and what they share
-  pub weigh-two : (n : ℕ) (p q : ℕ → Bool)
+  weigh-two : (n : ℕ) (p q : ℕ → Bool)
       → weigh w n p + weigh w n q ≤ weigh w n always + weigh w n (λ k. both (p k) (q k))
   unfolding weigh choose
   weigh-two zero p q = omega arith
@@ -85,7 +85,7 @@ either-way true x = omega arith
 either-way false x = omega arith
 
 -- those that pass a test and those that do not weigh as much as all
-pub weigh-not : (w : ℕ → ℕ) (n : ℕ) (p : ℕ → Bool) → weigh w n p + weigh w n (λ k. not (p k)) ≡ weigh w n always
+weigh-not : (w : ℕ → ℕ) (n : ℕ) (p : ℕ → Bool) → weigh w n p + weigh w n (λ k. not (p k)) ≡ weigh w n always
 unfolding weigh choose
 weigh-not w zero p = refl
 weigh-not w (suc n) p = omega (arith, weigh-not w n p, either-way (p n) (w n))

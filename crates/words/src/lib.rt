@@ -4,7 +4,7 @@ ghost use mathlib.Core.Path.{_≡_};
 ghost use Prim.Native.Nat.{_%_, _^_, min};
 ghost use lib.Dec.{eqb};
 ghost use Rattle.words.specs.Tests.{choose, either, between};
-ghost use Rattle.words.specs.Digits.{digit, raise, fill};
+ghost use Rattle.words.specs.Digits.{digit, raise, fill, withMember};
 ghost use Rattle.words.specs.Sums.{tally};
 
 // The digit of office q in a set: 1 where it is in, else 0.
@@ -74,7 +74,7 @@ pub fn with_bit(set: u32, q: u8) -> u32
 
 // The set with office q in it; where a set has no such digit, the set as it is.
 pub fn with_member(set: u32, q: u8) -> u32
-    ensures { λ r. ⌜ r ≡ fill 2 32 (λ k. choose (either (eqb (digit 2 set k) 1) (eqb q k)) 1 0) ⌝ }
+    ensures { λ r. ⌜ r ≡ withMember set q ⌝ }
 {
     set | only_bit(q)
 }

@@ -50,7 +50,7 @@ fn is_final<'a>(
         return false;
     }
     let count = head.count as usize;
-    tables::is_notarised(
+    tables::is_notarised_above(
         head.n,
         last,
         count,
@@ -65,7 +65,7 @@ fn is_final<'a>(
     )
 }
 
-// The refusal of a finalise step, 0 where there is none.
+// The refusal of a finalise step, 0 where there is none. In the office's view the base's chain is notarised.
 fn finalise_refusal<'a>(
     head: Head,
     signers: &'a [u8; 1024],
@@ -105,7 +105,7 @@ fn finalise_refusal<'a>(
     0
 }
 
-// The change that a finalise step makes.
+// The change that a finalise step makes. In the office's view the base's chain is notarised.
 pub(crate) fn finalise<'a>(
     still: Change,
     signers: &'a [u8; 1024],

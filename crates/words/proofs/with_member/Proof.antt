@@ -1,5 +1,6 @@
 -- `words::with_member` joins the set with that of the one office.
 use borrow.Author.Needs.{needs}
+use Rattle.words.specs.Digits.{withMember}
 use Rattle.words.proofs.Digits.{set-with}
 use Rattle.words.proofs.with_member.Statement.{statement}
 use Rattle.words.proofs.with_member.Tie as tie
@@ -8,6 +9,7 @@ only-bit-requires : tie.Need-only-bit-requires
 only-bit-requires c κs = search needs
 
 returns : tie.Need-returns
+unfolding withMember
 returns c = rw (c .only-bit .ensures) (set-with 32 _ _ (c .before .fits .set .fits))
 
 pub with-member-spec : {M : Type 1} → statement M

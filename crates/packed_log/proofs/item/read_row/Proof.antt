@@ -3,7 +3,7 @@ use borrow.Author.Needs.{needs}
 use Prim.Native.Nat.{_*_}
 use lib.ListN.{length}
 use Rattle.packed_log.proofs.WidthLaws.{Columns, columns}
-use Rattle.packed_log.proofs.PassLaws.{row-read}
+use Rattle.packed_log.proofs.RowLaws.{row-read}
 use Rattle.packed_log.proofs.item.read_row.Statement.{statement}
 use Rattle.packed_log.proofs.item.read_row.Tie as tie
 

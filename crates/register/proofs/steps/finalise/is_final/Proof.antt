@@ -37,8 +37,8 @@ returns c =
 cast-count : tie.Need-cast-count
 cast-count c = search needs
 
-is-notarised-requires : tie.Need-is-notarised-requires
-is-notarised-requires c κs = search needs
+is-notarised-above-requires : tie.Need-is-notarised-above-requires
+is-notarised-above-requires c κs = search needs
 
 returns-2 : tie.Need-returns-2
 unfolding trusted parentOf epochOf both whole
@@ -53,7 +53,7 @@ returns-2 c =
     let q : ℕ = a .q in
     let b : ℕ = a .b in
     rw (finalises-by r q b _ _ (at-parent-at .parent-at .ensures) (at-parent-at2 .parent-at2 .ensures), ← (at-are-consecutive .are-consecutive .ensures), not-false (at-are-consecutive .are-consecutive .result) (at-if1 .if1 .left))
-    (c .is-notarised .ensures ∙ sym (notarised-above r (entry .pre .1) (entry .pre .0) q (entry .pre .2) (a .base) b (entry .pre .3)))
+    (c .is-notarised-above .ensures ∙ sym (notarised-above r (entry .pre .1) (entry .pre .0) q (entry .pre .2) (a .base) b (entry .pre .3)))
 
 pub is-final-spec : {M : Type 1} → statement M
 is-final-spec =
@@ -64,5 +64,5 @@ is-final-spec =
     are-consecutive-requires
     returns
     cast-count
-    is-notarised-requires
+    is-notarised-above-requires
     returns-2)

@@ -1,4 +1,4 @@
--- `Register::run`: after i turns the register and the answers are those of the first i steps, and the final blocks of the set are settled.
+-- `Register::run`: after i turns the register and the answers are those of the first i steps, and the final blocks of the set's offices are settled.
 use borrow.Author.Needs.{needs}
 use Prim.Native.Nat.{_-_, _<_, _≤_, min}
 use mathlib.Core.Path.{_≡_, refl}

@@ -1,4 +1,4 @@
--- `tables::chain::is_notarised`: at each turn the blocks tested are sound, so the chain above the base is as sound as from the block reached;
+-- `tables::chain::is_notarised_above`: at each turn the blocks tested are sound, so the chain above the base is as sound as from the block reached;
 -- after the last turn the sets say what the columns say of every block, so of what is left of the chain.
 use borrow.Author.Needs.{needs}
 use Prim.Native.Nat.{ℕ, _-_, _≤_, _<_}
@@ -15,8 +15,8 @@ use Rattle.tables.specs.Searches.{soundIn, above, climbed}
 use Rattle.tables.proofs.Chains.{parent-in-lt}
 use Rattle.tables.proofs.Gathering.{sound-gathered}
 use Rattle.tables.proofs.Searching.{unmet-above, sound-next, sound-broken, sound-same, above-end, above-next}
-use Rattle.tables.proofs.chain.is_notarised.Statement.{statement}
-use Rattle.tables.proofs.chain.is_notarised.Tie as tie
+use Rattle.tables.proofs.chain.is_notarised_above.Statement.{statement}
+use Rattle.tables.proofs.chain.is_notarised_above.Tie as tie
 
 abbrev Inv-loop : tie.InvT-loop
 Inv-loop n last count places signers subjects parents epochs q b base offices sent at₀ tested₀ at tested =
@@ -117,8 +117,8 @@ returns-3 c =
     (sound-gathered _ _ _ _ _ _ _ _ _ _ (at-gather .gather .ensures) (omega (arith, offices .ensures))) _ (omega arith)
     ∙ sym (turn .loop .inv .2))
 
-pub is-notarised-spec : {M : Type 1} → statement M
-is-notarised-spec =
+pub is-notarised-above-spec : {M : Type 1} → statement M
+is-notarised-above-spec =
     tie.close
     (tie.spec
     Inv-loop
