@@ -3,8 +3,8 @@ use Prim.Native.Nat.{ℕ, zero, suc, _+_, _-_, _*_, _/_, _%_, _^_, _≤_, _<_, m
 use mathlib.Core.Path.{_≡_, refl, sym, ap, _∙_}
 use mathlib.Core.Bool.{Bool, true, false}
 use mathlib.Core.Logic.{⊎-elim}
-use native.Mathlib.Nat.{add-comm, add-mul, add-zero, eq-of-mul-eq-mul-right, eq-or-lt-of-le, lt-of-lt-of-le, mul-assoc, mul-comm, mul-zero, one-le-pow, one-mul, pow-le-pow-right, pow-suc, pow-succ', pow-zero, zero-add, zero-mul}
-use native.Mathlib.Nat.{add-div-right, add-mul-div-right, add-mul-mod-self-right, div-add-mod', div-div-eq-div-mul, div-eq-of-lt, div-lt-iff-lt-mul, mod-add-mod, mod-eq-of-lt, mod-lt, mod-one, mul-mod-right, zero-div, zero-mod}
+use native.Mathlib.Nat.{add-comm, add-mul, add-zero, eq-of-mul-eq-mul-right, eq-or-lt-of-le, lt-of-lt-of-le, mul-assoc, mul-lt-mul-of-pos-left, mul-one, mul-zero, one-le-pow, one-mul, pow-le-pow-right, pow-suc, pow-succ', pow-zero, zero-add, zero-mul}
+use native.Mathlib.Nat.{add-mul-div-right, add-mul-mod-self-right, div-eq-of-lt, mod-eq-of-lt, mod-lt, mod-one, mul-mod-right, zero-div, zero-mod}
 use native.Mathlib.Decide.{ℕ-discrete, decLt, decLe, le-ind}
 use native.Mathlib.Numerals.{add-one}
 use native.Mathlib.Omega.{arith}
@@ -14,10 +14,9 @@ use lib.Bits.{bitAnd, bitOr, and-high, or-lt, or-mod, or-shr, or-zero-l}
 use lib.Count.{ones, onesIn, ones-cat}
 use lib.Dec.{eqb}
 use lib.Pow.{pow-add}
-use Rattle.words.specs.Digits.{digit, raise, fill}
+use Rattle.words.specs.Digits.{digit, fill, withMember, withStage}
 use Rattle.words.specs.Sums.{tally, weigh, unit}
 use Rattle.words.specs.Tests.{choose, either}
-use Rattle.words.proofs.Tests.{either-none, either-right}
 
 -- a digit is below the base
 pub digit-lt : (b w q : ℕ) → 0 < b → digit b w q < b
@@ -43,49 +42,6 @@ digit-add-above b w m q k pos h =
     let j : ℕ = q - suc k in
     let e : m * b ^ q ≡ m * b ^ j * b * b ^ k = rw (pow-split b k q h) (simp mul-assoc) in
     rw (e, add-mul-div-right w (m * b ^ j * b) pow, add-mul-mod-self-right)
-
--- dividing by a power, in three steps
-div-split : (b w k q : ℕ) → k < q → w / b ^ q ≡ w / b ^ k / b / b ^ (q - suc k)
-div-split b w k q h =
-    let j : ℕ = q - suc k in
-    let e : b ^ q ≡ b ^ k * (b * b ^ j) = pow-split b k q h ∙ mul-comm (b ^ j * b) (b ^ k) ∙ rw (mul-comm (b ^ j) b) in
-    rw (e, ← div-div-eq-div-mul, ← div-div-eq-div-mul)
-
--- one more in a digit that has room carries nothing
-next-div : (b d : ℕ) → d % b + 1 < b → (d + 1) / b ≡ d / b
-next-div b d room =
-    let e : d + 1 ≡ d / b * b + (d % b + 1) = omega (arith, div-add-mod' d b) in
-    rw e (digits-div (d / b) room)
-
--- a digit with room, raised: what stands above its place is the same
-raise-above : (b w q k : ℕ) → digit b w q + 1 < b → q < k → raise b w q / b ^ k ≡ w / b ^ k
-unfolding digit raise
-raise-above b w q k room h =
-    let pos : 0 < b ^ q = one-le-pow q b (omega arith) in
-    rw (div-split b (w + b ^ q) q k h, div-split b w q k h, add-div-right w pos, next-div b (w / b ^ q) room)
-
--- a digit with room, raised, is one more
-pub digit-raise-same : (b w q : ℕ) → digit b w q + 1 < b → digit b (raise b w q) q ≡ digit b w q + 1
-unfolding digit raise
-digit-raise-same b w q room =
-    let pos : 0 < b ^ q = one-le-pow q b (omega arith) in
-    rw (add-div-right w pos, ← mod-add-mod, mod-eq-of-lt room)
-
--- the other digits stay
-pub digit-raise-other : (b w q k : ℕ) → digit b w q + 1 < b → (k ≡ q → ⊥) → digit b (raise b w q) k ≡ digit b w k
-unfolding digit raise
-digit-raise-other b w q k room other = go (decLt k q)
-  where
-    go : Dec (k < q) → (w + b ^ q) / b ^ k % b ≡ w / b ^ k % b
-    go (yes h) = rw one-mul at (digit-add-above b w 1 q k (omega arith) h)
-    go (no h) = ap (λ (x : ℕ). x % b) (raise-above b w q k room (omega arith))
-
--- the word stays within its places
-pub raise-lt : (b w q n : ℕ) → digit b w q + 1 < b → q < n → w < b ^ n → raise b w q < b ^ n
-raise-lt b w q n room h fit =
-    let pos : 0 < b ^ n = one-le-pow n b (omega arith) in
-    let none : raise b w q / b ^ n ≡ 0 = raise-above b w q n room h ∙ div-eq-of-lt fit in
-    rw one-mul at (div-lt-iff-lt-mul {x = raise b w q} {y = 1} pos .0 (omega arith))
 
 -- a word is below the power of its places
 fill-lt : (b n : ℕ) (f : ℕ → ℕ) → ((q : ℕ) → f q < b) → fill b n f < b ^ n
@@ -131,11 +87,10 @@ fill-digit b (suc n) w pos =
 
 -- a power whose place is within a word
 pub pow-within : (b q n : ℕ) → 1 < b → q < n → b ^ q % b ^ n ≡ b ^ q
-unfolding raise
 pow-within b q n big h =
-    let room : digit b 0 q + 1 < b = omega (arith, digit-zero b q) in
-    let fit : 0 + b ^ q < b ^ n = raise-lt b 0 q n room h (one-le-pow n b (omega arith)) in
-    mod-eq-of-lt (rw zero-add at fit)
+    let pos : 0 < b ^ q = one-le-pow q b (omega arith) in
+    let next : b ^ q < b ^ suc q = rw pow-suc (rw mul-one at (mul-lt-mul-of-pos-left big pos)) in
+    mod-eq-of-lt (lt-of-lt-of-le next (pow-le-pow-right (omega arith) h))
 
 -- a power whose place is past a word
 pub pow-past : (b q n : ℕ) → n ≤ q → b ^ q % b ^ n ≡ 0
@@ -218,6 +173,61 @@ fill-add b (suc n) d f q h =
     (λ (l : q < n). rw (← fill-add b n d f q l, ne-eqb n q (λ x. omega arith)) (omega arith))
     (eq-or-lt-of-le within)
 
+-- a word in which the digit at a place is left out, with another put in there
+put-in : (b n d : ℕ) (f : ℕ → ℕ) (q : ℕ) → q < n
+    → fill b n (λ k. choose (eqb k q) 0 (f k)) + d * b ^ q ≡ fill b n (λ k. choose (eqb k q) d (f k))
+put-in b n d f q h = fill-add b n d (λ k. choose (eqb k q) 0 (f k)) q h ∙ fill-ext b n _ _ (λ k l. by (eqb k q) (f k))
+  where
+    by : (t : Bool) (x : ℕ) → choose t (choose t 0 x + d) (choose t 0 x) ≡ choose t d x
+    by true x = unfold choose in zero-add d
+    by false x = unfold choose in refl
+
+-- a word with another digit at a place: what is taken out there is in the word, and what is put in fits and is that digit
+pub record Put (b n w q d : ℕ) : Type 0 where
+  pub taken : digit b w q * b ^ q ≤ w
+  pub fits : w - digit b w q * b ^ q + d * b ^ q < b ^ n
+  pub is : w - digit b w q * b ^ q + d * b ^ q ≡ fill b n (λ k. choose (eqb k q) d (digit b w k))
+
+pub digit-put : (b n w q d : ℕ) → d < b → q < n → w < b ^ n → Put b n w q d
+digit-put b n w q d small h fit =
+    let rest : ℕ = fill b n (λ k. choose (eqb k q) 0 (digit b w k)) in
+    let was : rest + digit b w q * b ^ q ≡ w =
+    put-in b n (digit b w q) (digit b w) q h
+    ∙ fill-ext b n _ (digit b w) (λ k l. own k (ℕ-discrete k q))
+    ∙ fill-whole b n n w (omega arith) fit (omega arith) in
+    let now : rest + d * b ^ q ≡ fill b n (λ k. choose (eqb k q) d (digit b w k)) = put-in b n d (digit b w) q h in
+    record { taken = omega arith; fits = omega (arith, fill-lt b n _ (λ k. low (eqb k q) k)); is = omega arith }
+  where
+    own : (k : ℕ) → Dec (k ≡ q) → choose (eqb k q) (digit b w q) (digit b w k) ≡ digit b w k
+    own k (yes e) = unfold choose in rw (eq-eqb k q e, e)
+    own k (no o) = unfold choose in rw (ne-eqb k q o)
+
+    low : (t : Bool) (k : ℕ) → choose t d (digit b w k) < b
+    low true k = unfold choose in small
+    low false k = unfold choose in digit-lt b w k (omega arith)
+
+-- the same of a stage, as code has it: the power of the place modulo the width, and the old digit
+pub record Staged (w q s old power : ℕ) : Type 0 where
+  pub taken : old * power ≤ w
+  pub fits : w - old * power + s % 4 * power < 4 ^ 32
+  pub is : w - old * power + s % 4 * power ≡ withStage w q s
+
+pub staged : (w q s old power : ℕ) → q < 32 → w < 4 ^ 32 → old ≡ digit 4 w q → power ≡ 4 ^ q % 4 ^ 32 → Staged w q s old power
+unfolding withStage
+staged w q s old power h fit o p =
+    let put : Put 4 32 w q (s % 4) = digit-put 4 32 w q (s % 4) (mod-lt s (omega arith)) h fit in
+    let at : power ≡ 4 ^ q = p ∙ pow-within 4 q 32 (omega arith) h in
+    record { taken = rw (o, at) (put .taken); fits = rw (o, at) (put .fits); is = rw (o, at) (put .is) }
+
+-- a digit of the word with another stage for one office
+pub stage-put : (w q s k : ℕ) → k < 32 → digit 4 (withStage w q s) k ≡ choose (eqb k q) (s % 4) (digit 4 w k)
+unfolding withStage
+stage-put w q s k h = digit-fill 4 32 (λ x. choose (eqb x q) (s % 4) (digit 4 w x)) (λ x. by (eqb x q) x) k h
+  where
+    by : (t : Bool) (x : ℕ) → choose t (s % 4) (digit 4 w x) < 4
+    by true x = unfold choose in mod-lt s (omega arith)
+    by false x = unfold choose in digit-lt 4 w x (omega arith)
+
 -- a digit of base 2 is 1 exactly where the test that it was put in for holds
 bit-chosen : (t : Bool) → eqb (choose t 1 0) 1 ≡ t
 unfolding choose
@@ -241,6 +251,11 @@ chosen-bit (suc (suc d)) h = absurd (omega arith)
 pub bit-set : (n : ℕ) (p : ℕ → Bool) (q : ℕ) → q < n → eqb (digit 2 (fill 2 n (λ k. choose (p k) 1 0)) q) 1 ≡ p q
 bit-set n p q h = rw (digit-fill 2 n (λ k. choose (p k) 1 0) (λ k. chosen-lt (p k)) q h) (bit-chosen (p q))
 
+-- who is in a set with one more member
+pub member-put : (w q k : ℕ) → k < 32 → eqb (digit 2 (withMember w q) k) 1 ≡ either (eqb (digit 2 w k) 1) (eqb q k)
+unfolding withMember
+member-put w q k h = bit-set 32 (λ x. either (eqb (digit 2 w x) 1) (eqb q x)) k h
+
 -- a word of n bits is the set of the numbers of which a test holds, where its bits say what the test says
 set-of-bits : (n w : ℕ) (p : ℕ → Bool) → w < 2 ^ n → ((q : ℕ) → q < n → eqb (digit 2 w q) 1 ≡ p q)
     → w ≡ fill 2 n (λ k. choose (p k) 1 0)
@@ -249,22 +264,29 @@ set-of-bits n w p fit same =
     ∙ fill-ext 2 n (digit 2 w) (λ k. choose (p k) 1 0)
     (λ q h. sym (chosen-bit (digit 2 w q) (digit-lt 2 w q (omega arith))) ∙ ap (λ (t : Bool). choose t 1 0) (same q h))
 
--- a bit that was 0, raised: the set has one more number
-bit-raise : (w q k : ℕ) → digit 2 w q + 1 < 2 → eqb (digit 2 (raise 2 w q) k) 1 ≡ either (eqb (digit 2 w k) 1) (eqb q k)
-bit-raise w q k room =
-    elim (ℕ-discrete k q) as (λ _. eqb (digit 2 (raise 2 w q) k) 1 ≡ either (eqb (digit 2 w k) 1) (eqb q k)) [
-      | yes e ↦ let one : digit 2 (raise 2 w q) q ≡ 1 = omega (arith, digit-raise-same 2 w q room) in
-          rw (e, one) (sym (either-right (eqb (digit 2 w q) 1) (eqb q q) (eq-eqb q q refl)))
-      | no d ↦ rw (digit-raise-other 2 w q k room d, ne-eqb q k (λ e. d (sym e)), either-none)
+-- a word in which every digit is 0
+fill-none : (b n : ℕ) → fill b n (λ k. 0) ≡ 0
+unfolding fill
+fill-none b zero = refl
+fill-none b (suc n) = rw (fill-none b n, zero-mul)
+
+-- a power is the word in which the digit of its place alone is 1
+pow-fill : (b n q : ℕ) → q < n → b ^ q ≡ fill b n (λ k. choose (eqb k q) 1 0)
+pow-fill b n q h = rw (fill-none, one-mul, zero-add) at (fill-add b n 1 (λ k. 0) q h)
+
+-- whether two numbers are equal does not depend on their order
+eqb-swap : (a b : ℕ) → eqb a b ≡ eqb b a
+eqb-swap a b =
+    elim (ℕ-discrete a b) as (λ _. eqb a b ≡ eqb b a) [
+      | yes e ↦ eq-eqb a b e ∙ sym (eq-eqb b a (sym e))
+      | no d ↦ ne-eqb a b d ∙ sym (ne-eqb b a (λ e. d (sym e)))
     ]
 
 -- the only number in the set of a power is its place, where that is below n
 bit-only : (n q k : ℕ) → k < n → eqb (digit 2 (2 ^ q % 2 ^ n) k) 1 ≡ eqb q k
-unfolding raise either
 bit-only n q k l =
     elim (decLt q n) as (λ _. eqb (digit 2 (2 ^ q % 2 ^ n) k) 1 ≡ eqb q k) [
-      | yes h ↦ rw (pow-within 2 q n (omega arith) h)
-          (rw (zero-add, digit-zero) at (bit-raise 0 q k (omega (arith, digit-zero 2 q))))
+      | yes h ↦ rw (pow-within 2 q n (omega arith) h, pow-fill 2 n q h) (bit-set n (λ x. eqb x q) k l ∙ eqb-swap k q)
       | no h ↦ rw (pow-past 2 q n (omega arith), digit-zero, ne-eqb q k (omega arith))
     ]
 

@@ -2,4 +2,6 @@
 pub mod Tests
 pub mod Sums
 pub mod Refusals
+pub mod Turns
+pub mod Clearing
 pub mod Digits

@@ -185,22 +185,7 @@ unfolding any
 any-same p q zero h = refl
 any-same p q (suc n) h = rw (any-same p q n (λ k l. h k (omega arith)), h n (omega arith))
 
--- where no number passes a test, none of fewer numbers passes a stricter one
-pub any-fewer : (p q : ℕ → Bool) (m n : ℕ) → m ≤ n → ((k : ℕ) → q k ≡ true → p k ≡ true) → any n p ≡ false → any m q ≡ false
-any-fewer p q m n less h none = ⊎-elim some (λ f. f) (decided (any m q))
-  where
-    some : any m q ≡ true → any m q ≡ false
-    some t =
-        let f : (k : ℕ) × (k < m) × (q k ≡ true) = any-at q m t in
-        clash (any-make p n (f .0) (omega (arith, f .1)) (h (f .0) (f .2))) none
-
 module _ (p : ℕ → Bool) (from : ℕ) where
-  -- some number of a part is some number of the whole
-  pub any-part : (size n : ℕ) → from + size ≤ n → any size (λ i. p (from + i)) ≡ true → any n p ≡ true
-  any-part size n within h =
-      let f : (i : ℕ) × (i < size) × (p (from + i) ≡ true) = any-at (λ i. p (from + i)) size h in
-      any-make p n (from + f .0) (omega (arith, f .1)) (f .2)
-
   -- none before a part and none in it
   pub any-neither : (size : ℕ) → any from p ≡ false → any size (λ i. p (from + i)) ≡ false → any (from + size) p ≡ false
   unfolding any either

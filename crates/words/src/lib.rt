@@ -1,10 +1,10 @@
 // Words with one digit per office: a set of offices in base 2, the stages of a message in base 4; and the test of a range.
-// No function asks anything of its caller: an office past the last digit of a word reads as 0, and raising it leaves the word as it is.
+// No function asks anything of its caller: an office past the last digit of a word reads as 0, and setting it leaves the word as it is.
 ghost use mathlib.Core.Path.{_≡_};
 ghost use Prim.Native.Nat.{_%_, _^_, min};
 ghost use lib.Dec.{eqb};
 ghost use Rattle.words.specs.Tests.{choose, either, between};
-ghost use Rattle.words.specs.Digits.{digit, raise, fill, withMember};
+ghost use Rattle.words.specs.Digits.{digit, fill, withMember, withStage};
 ghost use Rattle.words.specs.Sums.{tally};
 
 // The digit of office q in a set: 1 where it is in, else 0.
@@ -65,13 +65,6 @@ fn only_stage(q: u8) -> u64
     1 << (2 * q)
 }
 
-// The set with one more in the digit of office q.
-pub fn with_bit(set: u32, q: u8) -> u32
-    ensures { λ r. ⌜ r ≡ raise 2 set q % 2 ^ 32 ⌝ }
-{
-    std::num::wrapping_add_u32(set, only_bit(q))
-}
-
 // The set with office q in it; where a set has no such digit, the set as it is.
 pub fn with_member(set: u32, q: u8) -> u32
     ensures { λ r. ⌜ r ≡ withMember set q ⌝ }
@@ -79,11 +72,16 @@ pub fn with_member(set: u32, q: u8) -> u32
     set | only_bit(q)
 }
 
-// The word with one more in the digit of office q.
-pub fn with_stage(word: u64, q: u8) -> u64
-    ensures { λ r. ⌜ r ≡ raise 4 word q % 2 ^ 64 ⌝ }
+// The word with that stage for office q; where a word has no such digit, the word as it is.
+pub fn with_stage(word: u64, q: u8, new: u8) -> u64
+    ensures { λ r. ⌜ r ≡ withStage word q new ⌝ }
 {
-    std::num::wrapping_add_u64(word, only_stage(q))
+    if q >= 32 {
+        return word;
+    }
+    let unit = only_stage(q);
+    let old = stage(word, q) as u64;
+    word - old * unit + ((new % 4) as u64) * unit
 }
 
 // The offices of the set whose number is below n.

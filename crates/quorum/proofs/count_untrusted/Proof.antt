@@ -10,9 +10,6 @@ use Rattle.quorum.specs.Opening.{untrusted}
 use Rattle.quorum.proofs.count_untrusted.Statement.{statement}
 use Rattle.quorum.proofs.count_untrusted.Tie as tie
 
-members-requires : tie.Need-members-requires
-members-requires c κs = search needs
-
 -- the trusted and the untrusted offices are n
 split : (c : tie.After-members) → c .members .result + untrusted (c .before .args .n) (c .before .args .trust) ≡ c .before .args .n
 unfolding untrusted
@@ -26,4 +23,4 @@ unfolding untrusted
 returns c = omega (arith, split c)
 
 pub count-untrusted-spec : {M : Type 1} → statement M
-count-untrusted-spec = tie.close (tie.spec members-requires sub-result returns)
+count-untrusted-spec = tie.close (tie.spec (λ c κs. search needs) sub-result returns)

@@ -9,12 +9,6 @@ use Rattle.quorum.specs.Enough.{enough}
 use Rattle.quorum.proofs.is_enough.Statement.{statement}
 use Rattle.quorum.proofs.is_enough.Tie as tie
 
-mul-result : tie.Need-mul-result
-mul-result c = search needs
-
-members-requires : tie.Need-members-requires
-members-requires c κs = search needs
-
 mul-result-2 : tie.Need-mul-result-2
 mul-result-2 c =
     let set : ℕ = c .before .args .set in
@@ -25,4 +19,4 @@ unfolding enough
 returns c = rw (c .members .ensures)
 
 pub is-enough-spec : {M : Type 1} → statement M
-is-enough-spec = tie.close (tie.spec mul-result members-requires mul-result-2 returns)
+is-enough-spec = tie.close (tie.spec (λ c. search needs) (λ c κs. search needs) mul-result-2 returns)

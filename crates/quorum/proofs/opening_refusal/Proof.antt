@@ -13,9 +13,6 @@ use Rattle.quorum.proofs.Untrusted.{untrusted-most}
 use Rattle.quorum.proofs.opening_refusal.Statement.{statement}
 use Rattle.quorum.proofs.opening_refusal.Tie as tie
 
-between-requires : tie.Need-between-requires
-between-requires c κs = search needs
-
 returns : tie.Need-returns
 unfolding openingRefusal first choose
 returns c = rw (sym (c .before .between .ensures) ∙ not-true _ (c .if1 .taken))
@@ -24,9 +21,6 @@ returns c = rw (sym (c .before .between .ensures) ∙ not-true _ (c .if1 .taken)
 count : (c : tie.Else1) → between 1 32 (c .before .before .before .args .n) ≡ true
 count c = sym (c .before .between .ensures) ∙ not-false _ (c .if1 .left)
 
-between-requires-2 : tie.Need-between-requires-2
-between-requires-2 c κs = search needs
-
 returns-2 : tie.Need-returns-2
 unfolding openingRefusal first choose
 returns-2 c = rw (count (c .before .before), sym (c .before .between2 .ensures) ∙ not-true _ (c .if2 .taken))
@@ -34,9 +28,6 @@ returns-2 c = rw (count (c .before .before), sym (c .before .between2 .ensures) 
 -- past the second the schedule's length is
 schedule : (c : tie.Else2) → between 1 256 (length (c .before .before .before .before .before .args .schedule .now)) ≡ true
 schedule c = sym (c .before .between2 .ensures) ∙ not-false _ (c .if2 .left)
-
-has-stray-requires : tie.Need-has-stray-requires
-has-stray-requires c κs = search needs
 
 returns-3 : tie.Need-returns-3
 unfolding openingRefusal first choose
@@ -48,9 +39,6 @@ led : (c : tie.Else3)
     → stray (c .before .before .before .before .before .before .before .args .n)
     (c .before .before .before .before .before .before .before .args .schedule .now) ≡ false
 led c = sym (c .before .has-stray .ensures) ∙ c .if3 .left
-
-count-untrusted-requires : tie.Need-count-untrusted-requires
-count-untrusted-requires c κs = search needs
 
 mul-if4 : tie.Need-mul-if4
 mul-if4 c =
@@ -89,13 +77,13 @@ pub opening-refusal-spec : {M : Type 1} → statement M
 opening-refusal-spec =
     tie.close
     (tie.spec
-    between-requires
+    (λ c κs. search needs)
     returns
-    between-requires-2
+    (λ c κs. search needs)
     returns-2
-    has-stray-requires
+    (λ c κs. search needs)
     returns-3
-    count-untrusted-requires
+    (λ c κs. search needs)
     mul-if4
     returns-4
     returns-5)

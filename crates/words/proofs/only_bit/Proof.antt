@@ -8,11 +8,5 @@ use Rattle.words.proofs.only_bit.Tie as tie
 returns : tie.Need-returns
 returns c = sym (pow-past 2 (c .before .args .q) 32 (search needs))
 
-shl-result : tie.Need-shl-result
-shl-result c = search needs
-
-returns-2 : tie.Need-returns-2
-returns-2 c = search needs
-
 pub only-bit-spec : {M : Type 1} → statement M
-only-bit-spec = tie.close (tie.spec returns shl-result returns-2)
+only-bit-spec = tie.close (tie.spec returns (λ c. search needs) (λ c. search needs))

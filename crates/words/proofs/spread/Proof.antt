@@ -14,21 +14,9 @@ Inv-loop set n limit word₀ q₀ word q = (q ≤ limit) × (word ≡ fill 4 q (
 abbrev μ-loop : tie.MeasureT-loop
 μ-loop set n limit word₀ q₀ word q = limit - q
 
-places-requires : tie.Need-places-requires Inv-loop μ-loop
-places-requires c κs = search needs
-
 loop-holds : tie.Need-loop-holds Inv-loop μ-loop
 unfolding fill
 loop-holds c = (search needs, refl)
-
-bit-requires : tie.Need-bit-requires Inv-loop μ-loop
-bit-requires c κs = search needs
-
-cast-word : tie.Need-cast-word Inv-loop μ-loop
-cast-word c = search needs
-
-only-stage-requires : tie.Need-only-stage-requires Inv-loop μ-loop
-only-stage-requires c κs = search needs
 
 -- what the loop's step makes of the word
 abbrev sum : tie.After-only-stage Inv-loop μ-loop → ℕ
@@ -49,12 +37,6 @@ mul-word c = omega (arith, step c)
 add-word : tie.Need-add-word Inv-loop μ-loop
 add-word c = omega (arith, step c)
 
-add-q : tie.Need-add-q Inv-loop μ-loop
-add-q c = search needs
-
-loop-less : tie.Need-loop-less Inv-loop μ-loop
-loop-less c = search needs
-
 loop-again : tie.Need-loop-again Inv-loop μ-loop
 loop-again c = (search needs, step c .0)
 
@@ -71,14 +53,14 @@ spread-spec =
     (tie.spec
     Inv-loop
     μ-loop
-    places-requires
+    (λ c κs. search needs)
     loop-holds
-    bit-requires
-    cast-word
-    only-stage-requires
+    (λ c κs. search needs)
+    (λ c. search needs)
+    (λ c κs. search needs)
     mul-word
     add-word
-    add-q
-    loop-less
+    (λ c. search needs)
+    (λ c. search needs)
     loop-again
     returns)
