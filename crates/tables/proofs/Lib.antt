@@ -1,5 +1,6 @@
 -- The laws of the definitions in specs/.
 pub mod Scans
 pub mod Chains
-pub mod Gathering
+pub mod Views
 pub mod Searching
+pub mod Walking

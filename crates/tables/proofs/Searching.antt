@@ -1,93 +1,68 @@
 -- Climbing chains and searching for a longer one: what a turn of each loop adds, and what it tells of the chain.
-use Prim.Native.Nat.{ℕ, _+_, _<_, _≤_}
+use Prim.Native.Nat.{ℕ, zero, suc, _+_, _<_, _≤_}
 use mathlib.Core.Path.{_≡_, refl, sym, ap, _∙_}
 use mathlib.Core.Bool.{Bool, true, false, not}
 use mathlib.Core.Logic.{⊎-elim}
 use mathlib.Core.List.{List, [], _∷_}
 use native.Mathlib.Omega.{arith}
-use native.Mathlib.Nat.{zero-add}
-use native.Mathlib.Decide.{ℕ-discrete}
-use borrow.Author.Tests.{eq-eqb, ne-eqb, eqb-true, eqb-false, lt-ltb, le-ltb, ltb-true}
+use native.Mathlib.Numerals.{add-one}
+use native.Mathlib.Decide.{ℕ-discrete, decLt}
+use borrow.Author.Tests.{eq-eqb, ne-eqb, eqb-true, eqb-false, lt-ltb, le-ltb}
 use lib.Dec.{eqb, ltb}
-use lib.ListN.{length, getD}
-use Rattle.quorum.specs.Enough.{enough}
+use lib.ListN.{length}
 use Rattle.quorum.proofs.Enough.{enough-make}
 use Rattle.words.specs.Digits.{digit, fill}
-use Rattle.words.specs.Sums.{tally}
-use Rattle.words.specs.Tests.{choose, both, either, any, every}
-use Rattle.words.proofs.Tests.{any-same, both-left, both-right, both-none, decided, either-cases, either-left, either-false-left, either-false-right}
+use Rattle.words.specs.Tests.{choose, both, either, every}
+use Rattle.words.proofs.Tests.{any-fails, any-same, both-right, decided, either-cases, either-left, either-false-left, either-false-right}
 use Rattle.words.proofs.Sums.{always, tally-always, tally-ext}
 use Rattle.words.proofs.Digits.{bit-set}
-use Rattle.tables.specs.declared.chain.Climb.{Climb}
-use Rattle.tables.specs.Blocks.{parentIn, epochIn}
+use Rattle.tables.specs.Blocks.{parentIn}
 use Rattle.tables.specs.Chains.{chainBy}
-use Rattle.tables.specs.Searches.{soundBy, soundFrom, above, climbed, longerBy, longestBy}
-use Rattle.tables.proofs.Chains.{Down, chain-by-genesis, chain-by-step, climb-induction}
+use Rattle.tables.specs.Searches.{blocks, offices, enoughIn, certifiedBy, certifiedIn, above, certifiedAbove, rank, rankAbove, outranked, longerBy, longestBy, longestIn}
+use Rattle.tables.proofs.Chains.{Down, parent-in-lt, chain-by-genesis, chain-by-step, climb-induction}
 
--- A climb has passed so many blocks, all sound, and comes to block `at`: the blocks from there on are sound too, and all are more than
--- there were to beat.
-unfoldable pub left : (parent : ℕ → ℕ) → (sound : ℕ → Bool) → (beat climbed at : ℕ) → Bool
-left parent sound beat climbed at = both (every sound (chainBy parent at)) (ltb beat (climbed + length (chainBy parent at)))
-
--- the chain of genesis is sound
-sound-genesis : (parent : ℕ → ℕ) (sound : ℕ → Bool) → every sound (chainBy parent 0) ≡ true
+-- the chain of genesis is of certified blocks alone
+certified-genesis : (parent : ℕ → ℕ) (certified : ℕ → Bool) → every certified (chainBy parent 0) ≡ true
 unfolding every
-sound-genesis parent sound = rw (chain-by-genesis parent)
+certified-genesis parent certified = rw (chain-by-genesis parent)
 
 -- the word of 32 ones is the set of all 32 offices
-everyone-all : 4294967295 ≡ fill 2 32 (λ s. choose (always s) 1 0)
+everyone-all : 4294967295 ≡ fill 2 offices (λ s. choose (always s) 1 0)
 unfolding fill choose
 everyone-all = refl
 
 -- everyone is enough, however many offices there are
-pub everyone-enough : (n : ℕ) → n ≤ 32 → enough (tally n (λ s. eqb (digit 2 4294967295 s) 1)) n ≡ true
+pub everyone-enough : (n : ℕ) → n ≤ offices → enoughIn 4294967295 n ≡ true
 everyone-enough n few =
-    let in-it : (s : ℕ) → s < n → eqb (digit 2 4294967295 s) 1 ≡ true = λ s h. rw everyone-all (bit-set 32 always s (omega arith)) in
+    let in-it : (s : ℕ) → s < n → eqb (digit 2 4294967295 s) 1 ≡ true = λ s h. rw everyone-all (bit-set offices always s (omega arith)) in
     enough-make _ n (omega (arith, tally-ext n (λ s. eqb (digit 2 4294967295 s) 1) always in-it, tally-always n))
 
--- the test of a block by its set of signers, its own epoch and that of its parent
-pub sound-tested : (sets parents epochs : List ℕ) (last n at parent below epoch : ℕ) (t : Bool)
-    → t ≡ both (ltb below epoch) (enough (tally n (λ s. eqb (digit 2 (getD sets at 0) s) 1)) n)
-    → parent ≡ parentIn parents last at → below ≡ epochIn epochs last parent → epoch ≡ epochIn epochs last at
-    → t ≡ soundFrom sets parents epochs last n at
-unfolding soundFrom soundBy
-sound-tested sets parents epochs last n at parent below epoch t e ep eb ee = e ∙ rw (eb, ep, ee)
+-- a certified block has enough signers
+pub certified-enough : (parent epoch : ℕ → ℕ) (n b set : ℕ) (t : Bool) → t ≡ certifiedBy parent epoch (λ _. enoughIn set n) b → t ≡ true → enoughIn set n ≡ true
+unfolding certifiedBy
+certified-enough parent epoch n b set t e holds = both-right _ _ (sym e ∙ holds)
 
--- a climb that meets a block that is not sound
-pub climbed-broken : (sound : ℕ → Bool) (chain : List ℕ) → every sound chain ≡ false
-    → record { sound = false; length = 0 } ≡ climbed sound chain
-unfolding climbed choose
-climbed-broken sound chain h = rw h
+-- the rank of a chain with so many certified blocks above one of that rank
+unfoldable pub raised : (climbed : ℕ) → (rank : ℕ) → ℕ
+raised climbed zero = zero
+raised climbed (suc k) = suc k + climbed
 
--- a climb that meets none, and how many blocks it passed
-pub climbed-whole : (sound : ℕ → Bool) (chain : List ℕ) (passed : ℕ) → every sound chain ≡ true → passed ≡ length chain
-    → record { sound = true; length = passed } ≡ climbed sound chain
-unfolding climbed choose
-climbed-whole sound chain passed h e = rw (h, e)
+-- with none
+pub raised-start : (r : ℕ) → r ≡ raised 0 r
+unfolding raised
+raised-start zero = refl
+raised-start (suc r) = omega arith
 
--- what a climb says of its chain
-module _ (sound : ℕ → Bool) (chain : List ℕ) (up : Climb) (e : up ≡ climbed sound chain) where
-  pub unsound-climb : up .sound ≡ false → every sound chain ≡ false
-  unfolding climbed
-  unsound-climb h = sym (ap (λ u. u .sound) e) ∙ h
+-- above a rank that is not 0
+pub raised-some : (climbed k : ℕ) → raised climbed (k + 1) ≡ k + 1 + climbed
+unfolding raised
+raised-some climbed k = rw (add-one k)
 
-  pub sound-climb : up .sound ≡ true → (every sound chain ≡ true) × (length chain ≡ up .length)
-  unfolding climbed choose
-  sound-climb h =
-      let all-sound : every sound chain ≡ true = sym (ap (λ u. u .sound) e) ∙ h in
-      (all-sound, sym (rw all-sound at (ap (λ u. u .length) e)))
-
--- where a chain begins with a block
-module _ (sound : ℕ → Bool) (b : ℕ) (chain older : List ℕ) (e : chain ≡ b ∷ older) where
-  -- that is sound, it is as sound as the rest
-  pub sound-next : sound b ≡ true → every sound chain ≡ every sound older
-  unfolding every both
-  sound-next s = rw (e, s)
-
-  -- that is not, it is not sound
-  pub sound-broken : sound b ≡ false → every sound chain ≡ false
-  unfolding every both
-  sound-broken s = rw (e, s)
+-- one certified block more
+raised-one : (climbed n : ℕ) (t : Bool) → raised climbed (choose t (suc n + 1) 0) ≡ raised (climbed + 1) (choose t (n + 1) 0)
+unfolding raised choose
+raised-one climbed n true = rw (raised-some climbed (suc n), raised-some (climbed + 1) n) (omega arith)
+raised-one climbed n false = refl
 
 -- a climb that ends at genesis, or where another test holds, is above genesis where it goes on
 pub unmet-above : (at : ℕ) (t : Bool) → either (eqb at 0) t ≡ false → 0 < at
@@ -107,7 +82,7 @@ module _ (parent : ℕ → ℕ) (down : Down parent) where
   -- climbs that end at genesis or at a base
   module _ (base : ℕ) where
     -- at the end no block of the chain is above the base
-    pub above-end : (at : ℕ) → either (eqb at 0) (eqb at base) ≡ true → above base (chainBy parent at) ≡ []
+    above-end : (at : ℕ) → either (eqb at 0) (eqb at base) ≡ true → above base (chainBy parent at) ≡ []
     unfolding above choose either
     above-end at end =
         elim (ℕ-discrete at 0) as (λ _. above base (chainBy parent at) ≡ []) [
@@ -116,7 +91,7 @@ module _ (parent : ℕ → ℕ) (down : Down parent) where
         ]
 
     -- elsewhere: the block itself, and then those of its parent's chain above the base
-    pub above-next : (at : ℕ) → either (eqb at 0) (eqb at base) ≡ false → above base (chainBy parent at) ≡ at ∷ above base (chainBy parent (parent at))
+    above-next : (at : ℕ) → either (eqb at 0) (eqb at base) ≡ false → above base (chainBy parent at) ≡ at ∷ above base (chainBy parent (parent at))
     unfolding above choose
     above-next at more = rw (chain-by-step parent down at (unmet-above at (eqb at base) more), either-false-right (eqb at 0) (eqb at base) more)
 
@@ -127,26 +102,24 @@ module _ (parent : ℕ → ℕ) (down : Down parent) where
         climb-induction parent down P (end 0 (either-left (eqb 0 0) (eqb 0 base) (eq-eqb 0 0 refl)))
         (λ b h ih. ⊎-elim (end b) (λ more. step b more ih) (decided (either (eqb b 0) (eqb b base))))
 
-    -- two tests of blocks that agree below 256 agree on every such climb
-    pub sound-same : (p q : ℕ → Bool) → ((b : ℕ) → 0 < b → b < 256 → p b ≡ q b)
-        → (b : ℕ) → b < 256 → every p (above base (chainBy parent b)) ≡ every q (above base (chainBy parent b))
-    unfolding every
-    sound-same p q same =
-        above-induction (λ (b : ℕ). b < 256 → every p (above base (chainBy parent b)) ≡ every q (above base (chainBy parent b)))
-        (λ b end l. rw (above-end b end))
-        (λ b more ih l.
-        let h : 0 < b = unmet-above b (eqb b base) more in
-        rw (above-next b more, same b h l, ih (omega (arith, down b h))))
-
-  -- where the base's chain is of sound blocks alone, b's chain is so exactly where its blocks above the base are sound
-  pub sound-above : (sound : ℕ → Bool) (base : ℕ) → every sound (chainBy parent base) ≡ true
-      → (b : ℕ) → every sound (above base (chainBy parent b)) ≡ every sound (chainBy parent b)
+  -- two tests that agree on every block agree on every chain
+  pub certified-same : (p q : ℕ → Bool) → ((b : ℕ) → 0 < b → b < blocks → p b ≡ q b)
+      → (b : ℕ) → b < blocks → every p (chainBy parent b) ≡ every q (chainBy parent b)
   unfolding every
-  sound-above sound base whole =
-      above-induction base (λ (b : ℕ). every sound (above base (chainBy parent b)) ≡ every sound (chainBy parent b))
+  certified-same p q same =
+      climb-induction parent down (λ (b : ℕ). b < blocks → every p (chainBy parent b) ≡ every q (chainBy parent b))
+      (λ l. rw (chain-by-genesis parent))
+      (λ b h ih l. rw (chain-by-step parent down b h, same b h l, ih (omega (arith, down b h))))
+
+  -- where the base's chain is of certified blocks alone, b's chain is so exactly where its blocks above the base are certified
+  pub certified-above : (certified : ℕ → Bool) (base : ℕ) → every certified (chainBy parent base) ≡ true
+      → (b : ℕ) → every certified (above base (chainBy parent b)) ≡ every certified (chainBy parent b)
+  unfolding every
+  certified-above certified base whole =
+      above-induction base (λ (b : ℕ). every certified (above base (chainBy parent b)) ≡ every certified (chainBy parent b))
       (λ b end.
       rw (above-end base b end)
-      (⊎-elim (λ (genesis : eqb b 0 ≡ true). rw (eqb-true b 0 genesis) (sym (sound-genesis parent sound)))
+      (⊎-elim (λ (genesis : eqb b 0 ≡ true). rw (eqb-true b 0 genesis) (sym (certified-genesis parent certified)))
       (λ (met : eqb b base ≡ true). rw (eqb-true b base met) (sym whole)) (either-cases (eqb b 0) (eqb b base) end)))
       (λ b more ih. rw (above-next base b more, chain-by-step parent down b (unmet-above b (eqb b base) more), ih))
 
@@ -157,66 +130,105 @@ module _ (parent : ℕ → ℕ) (down : Down parent) where
       climb-induction parent down (λ (b : ℕ). above 0 (chainBy parent b) ≡ chainBy parent b) (rw (chain-by-genesis parent))
       (λ b h ih. rw (chain-by-step parent down b h, ne-eqb b 0 (omega arith), ih))
 
-  -- flags p that agree with q on the blocks below 256 decide whether a chain is longest by q
-  module _ (p q : ℕ → Bool) (same : (b : ℕ) → 0 < b → b < 256 → p b ≡ q b) (last : ℕ) (few : last < 256) (b : ℕ) (l : b < 256) where
-    -- they agree on every chain
-    whole-same : (x : ℕ) → x < 256 → every p (chainBy parent x) ≡ every q (chainBy parent x)
-    whole-same x h = rw (above-genesis x) at (sound-same 0 p q same x h)
+-- one more where a test holds, else 0, is above 0 where it holds
+chosen-above : (t : Bool) (n : ℕ) → ltb 0 (choose t (n + 1) 0) ≡ t
+unfolding choose
+chosen-above true n = lt-ltb 0 (n + 1) (omega arith)
+chosen-above false n = le-ltb 0 0 (omega arith)
 
-    -- a chain with a block that is not sound is not longest
-    pub longest-broken : every p (chainBy parent b) ≡ false → false ≡ longestBy parent q last b
-    unfolding longestBy both
-    longest-broken h = rw (← whole-same b l, h)
+chosen-most : (t : Bool) (n b : ℕ) → n ≤ b → choose t (n + 1) 0 ≤ b + 1
+unfolding choose
+chosen-most true n b h = omega arith
+chosen-most false n b h = omega arith
 
-    -- a sound chain is longest where no block has a longer one
-    pub longest-searched : (beat : ℕ) (found : Bool) → every p (chainBy parent b) ≡ true → length (chainBy parent b) ≡ beat
-        → found ≡ any (last + 1) (longerBy parent p beat) → not found ≡ longestBy parent q last b
-    unfolding longestBy longerBy both
-    longest-searched beat found h e f =
-        rw (← whole-same b l, h, e, f, any-same (longerBy parent p beat) (longerBy parent q beat) (last + 1) (λ x k. rw (whole-same x (omega arith))))
+-- more blocks, of a chain that passes a test: one more of each is more
+more-blocks : (beat n : ℕ) (t : Bool) → both t (ltb beat n) ≡ ltb (beat + 1) (choose t (n + 1) 0)
+unfolding both choose
+more-blocks beat n true =
+    elim (decLt beat n) as (λ _. ltb beat n ≡ ltb (beat + 1) (n + 1)) [
+      | yes more ↦ lt-ltb beat n more ∙ sym (lt-ltb (beat + 1) (n + 1) (omega arith))
+      | no over ↦ le-ltb beat n (omega arith) ∙ sym (le-ltb (beat + 1) (n + 1) (omega arith))
+    ]
+more-blocks beat n false = sym (le-ltb (beat + 1) 0 (omega arith))
 
-  module _ (sound : ℕ → Bool) (beat : ℕ) where
-    -- a block up to the length to beat is the last of no longer chain
-    pub longer-past : (x : ℕ) → x ≤ beat → longerBy parent sound beat x ≡ false
-    unfolding longerBy
-    longer-past x h = rw (le-ltb beat (length (chainBy parent x)) (omega (arith, length-by-most x))) (both-none _)
+-- climbs in a view
+module _ (view parents epochs : List ℕ) (last n : ℕ) where
+  abbrev parent : ℕ → ℕ
+  parent = parentIn parents last
 
-    -- a climb begins
-    pub left-start : (x : ℕ) → longerBy parent sound beat x ≡ left parent sound beat 0 x
-    unfolding longerBy left
-    left-start x = rw zero-add
+  abbrev certified : ℕ → Bool
+  certified = certifiedIn view parents epochs last n
 
-    -- a climb goes on past a sound block
-    pub left-next : (climbed at : ℕ) → 0 < at → sound at ≡ true
-        → left parent sound beat climbed at ≡ left parent sound beat (climbed + 1) (parent at)
-    unfolding left
-    left-next climbed at h s =
-        let e : climbed + length (chainBy parent at) ≡ climbed + 1 + length (chainBy parent (parent at)) = omega (arith, length-by-step at h) in
-        rw (e, sound-next sound at _ _ (chain-by-step parent down at h) s)
+  abbrev certifiedTo : (base b : ℕ) → Bool
+  certifiedTo base b = certifiedAbove view parents epochs last n b base
 
-    -- a climb ends where what is left is too short
-    pub left-short : (climbed at : ℕ) → climbed + at ≤ beat → left parent sound beat climbed at ≡ false
-    unfolding left
-    left-short climbed at h =
-        rw (le-ltb beat (climbed + length (chainBy parent at)) (omega (arith, length-by-most at))) (both-none _)
+  abbrev rankTo : (base b : ℕ) → ℕ
+  rankTo base b = rankAbove view parents epochs last n b base
 
-    -- or at a block that is not sound
-    pub left-broken : (climbed at : ℕ) → 0 < at → sound at ≡ false → left parent sound beat climbed at ≡ false
-    unfolding left both
-    left-broken climbed at h s = rw (sound-broken sound at _ _ (chain-by-step parent down at h) s)
+  module _ (base at : ℕ) where
+    -- at its foot a climb has no block left
+    module _ (end : either (eqb at 0) (eqb at base) ≡ true) where
+      pub foot-certified : certifiedTo base at ≡ true
+      unfolding certifiedAbove every
+      foot-certified = rw (above-end parent (parent-in-lt parents last) base at end)
 
-    -- or at genesis, with more blocks than were to beat, or, with any block passed, at a block whose chain is sound and as long as the one to
-    -- beat: the chain is longer
-    pub left-met : (b climbed at : ℕ) → every sound (chainBy parent b) ≡ true → length (chainBy parent b) ≡ beat → beat < climbed + at
-        → either (eqb at 0) (both (eqb at b) (ltb 0 climbed)) ≡ true → left parent sound beat climbed at ≡ true
-    unfolding left both
-    left-met b climbed at s e h t =
-        ⊎-elim
-        (λ (genesis : eqb at 0 ≡ true).
-        rw (eqb-true at 0 genesis, sound-genesis parent sound, chain-by-genesis parent)
-        (lt-ltb beat (climbed + 0) (omega (arith, eqb-true at 0 genesis))))
-        (λ (known : both (eqb at b) (ltb 0 climbed) ≡ true).
-        let here : at ≡ b = eqb-true at b (both-left (eqb at b) (ltb 0 climbed) known) in
-        let passed : 0 < climbed = ltb-true 0 climbed (both-right (eqb at b) (ltb 0 climbed) known) in
-        rw (here, s) (lt-ltb beat (climbed + length (chainBy parent b)) (omega arith)))
-        (either-cases (eqb at 0) (both (eqb at b) (ltb 0 climbed)) t)
+      pub foot-rank : rankTo base at ≡ 1
+      unfolding rankAbove rank every choose
+      foot-rank = rw (above-end parent (parent-in-lt parents last) base at end)
+
+    -- elsewhere the test of a block tells whether it goes on
+    module _ (more : either (eqb at 0) (eqb at base) ≡ false) (t : Bool) (e : t ≡ certified at) where
+      pub next-certified : t ≡ true → certifiedTo base at ≡ certifiedTo base (parent at)
+      unfolding certifiedAbove every both
+      next-certified holds = rw (above-next parent (parent-in-lt parents last) base at more, sym e ∙ holds)
+
+      pub stop-certified : t ≡ false → certifiedTo base at ≡ false
+      unfolding certifiedAbove every both
+      stop-certified fails = rw (above-next parent (parent-in-lt parents last) base at more, sym e ∙ fails)
+
+      pub next-rank : (climbed : ℕ) → t ≡ true → raised climbed (rankTo base at) ≡ raised (climbed + 1) (rankTo base (parent at))
+      unfolding rankAbove rank every both
+      next-rank climbed holds =
+          rw (above-next parent (parent-in-lt parents last) base at more, sym e ∙ holds) (raised-one climbed _ _)
+
+      pub stop-rank : (climbed : ℕ) → t ≡ false → raised climbed (rankTo base at) ≡ 0
+      unfolding rankAbove rank every both raised choose
+      stop-rank climbed fails = rw (above-next parent (parent-in-lt parents last) base at more, sym e ∙ fails)
+
+  -- a rank tells whether the blocks above the base are certified
+  pub rank-test : (base b : ℕ) → ltb 0 (rankTo base b) ≡ certifiedTo base b
+  unfolding rankAbove rank certifiedAbove
+  rank-test base b = chosen-above _ _
+
+  -- above genesis is the whole chain
+  rank-whole : (b : ℕ) → rankTo 0 b ≡ choose (every certified (chainBy parent b)) (length (chainBy parent b) + 1) 0
+  unfolding rankAbove rank
+  rank-whole b = rw (above-genesis parent (parent-in-lt parents last) b)
+
+  -- a rank is at most one more than the block's number
+  pub rank-most : (b : ℕ) → rankTo 0 b ≤ b + 1
+  rank-most b = rw (rank-whole b) (chosen-most (every certified (chainBy parent b)) _ b (length-by-most parent (parent-in-lt parents last) b))
+
+  -- so no rank is above the one to beat, where that is above the last block's number
+  pub none-outranks : (beat : ℕ) → last < beat → false ≡ outranked view parents epochs last n beat
+  unfolding outranked
+  none-outranks beat small = sym (any-fails _ (last + 1) (λ k l. le-ltb beat (rankTo 0 k) (omega (arith, rank-most k))))
+
+  -- a rank tells whether the whole chain is certified
+  whole-test : (b : ℕ) → every certified (chainBy parent b) ≡ ltb 0 (rankTo 0 b)
+  whole-test b = rw (rank-whole b) (sym (chosen-above _ _))
+
+  -- a chain of rank 0 is not longest
+  pub unranked-longest : (b : ℕ) → rankTo 0 b ≡ 0 → false ≡ longestIn view parents epochs last n b
+  unfolding longestIn longestBy both
+  unranked-longest b none = rw (whole-test b, none)
+
+  -- any other is, where no block has a greater rank
+  pub ranked-longest : (b beat : ℕ) (found : Bool) → beat ≡ rankTo 0 b → 0 < beat → found ≡ outranked view parents epochs last n beat
+      → not found ≡ longestIn view parents epochs last n b
+  unfolding longestIn longestBy longerBy outranked both choose
+  ranked-longest b beat found same some e =
+      let all-of-it : every certified (chainBy parent b) ≡ true = whole-test b ∙ lt-ltb 0 (rankTo 0 b) (omega arith) in
+      let whole : length (chainBy parent b) + 1 ≡ beat = sym (same ∙ rw all-of-it at (rank-whole b)) in
+      rw (all-of-it, e, ← whole)
+      (ap not (any-same _ _ (last + 1) (λ x l. rw (rank-whole x) (sym (more-blocks (length (chainBy parent b)) (length (chainBy parent x)) (every certified (chainBy parent x)))))))

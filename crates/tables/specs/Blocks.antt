@@ -24,11 +24,11 @@ parentIn parents last b = choose (both (madeIn last b) (ltb (getD parents b 0) b
 unfoldable pub epochIn : (epochs : List ℕ) → (last : ℕ) → ℕ → ℕ
 epochIn epochs last b = choose (madeIn last b) (getD epochs b 0) 0
 
--- a block with the first parent, epoch and payload has also the second
-unfoldable pub alike : (parent epoch payload : ℕ) → (p e w : ℕ) → Bool
-alike parent epoch payload p e w = both (eqb parent p) (both (eqb epoch e) (eqb payload w))
+-- block b has parent p, epoch e and payload w
+unfoldable pub matchesIn : (parents epochs payloads : List ℕ) → (last : ℕ) → (p e w : ℕ) → (b : ℕ) → Bool
+matchesIn parents epochs payloads last p e w b =
+    both (eqb (parentIn parents last b) p) (both (eqb (epochIn epochs last b) e) (eqb (getD payloads b 0) w))
 
 -- the lowest block from 1 up that has that parent, epoch and payload; the next number where there is none
 unfoldable pub namedIn : (parents epochs payloads : List ℕ) → (last : ℕ) → (p e w : ℕ) → ℕ
-namedIn parents epochs payloads last p e w =
-    lowest last (λ k. alike (parentIn parents last (k + 1)) (epochIn epochs last (k + 1)) (getD payloads (k + 1) 0) p e w) + 1
+namedIn parents epochs payloads last p e w = lowest last (λ k. matchesIn parents epochs payloads last p e w (k + 1)) + 1

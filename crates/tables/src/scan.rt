@@ -3,16 +3,14 @@ ghost use mathlib.Core.Path.{_≡_};
 ghost use Prim.Native.Nat.{_+_, _≤_, _<_, min};
 ghost use lib.Dec.{eqb};
 ghost use lib.ListN.{getD};
-ghost use Rattle.words.specs.Tests.{both, any};
-ghost use Rattle.words.specs.Digits.{digit};
-ghost use Rattle.tables.specs.Blocks.{trustedIn, madeIn, parentIn, epochIn, alike, namedIn};
-ghost use Rattle.tables.specs.Messages.{view, saysIn, historyIn};
-ghost use Rattle.tables.specs.Searches.{signedIn};
+ghost use Rattle.words.specs.Lent.{lent};
+ghost use Rattle.words.specs.Tests.{any};
+ghost use Rattle.tables.specs.Blocks.{trustedIn, madeIn, parentIn, epochIn, matchesIn, namedIn};
+ghost use Rattle.tables.specs.Messages.{saysIn, historyIn};
+ghost use Rattle.tables.specs.Searches.{messages, signedIn};
+use crate::limits::message_count;
 
-// So many messages the columns have room for.
-const MESSAGES: usize = 1024;
-
-// So many of them are looked at together.
+// So many messages are looked at together.
 pub(crate) const CHUNK: usize = 64;
 
 // Office q is there and its bit in the trust word is 1.
@@ -31,7 +29,7 @@ fn is_made(last: u8, b: u8) -> bool
 
 // The parent of block b; genesis where b has none, or where its entry names no smaller block.
 pub fn parent_at<'a>(parents: &'a [u8; 256], last: u8, b: u8) -> u8
-    ensures { λ r. ⌜ r ≡ parentIn (now (parents .entry)) last b ⌝ }
+    ensures { λ r. ⌜ r ≡ parentIn (lent parents) last b ⌝ }
 {
     let parent = parents[b as usize];
     if is_made(last, b) & (parent < b) {
@@ -42,7 +40,7 @@ pub fn parent_at<'a>(parents: &'a [u8; 256], last: u8, b: u8) -> u8
 
 // The epoch of block b; genesis has epoch 0.
 pub fn epoch_at<'a>(epochs: &'a [u16; 256], last: u8, b: u8) -> u16
-    ensures { λ r. ⌜ r ≡ epochIn (now (epochs .entry)) last b ⌝ }
+    ensures { λ r. ⌜ r ≡ epochIn (lent epochs) last b ⌝ }
 {
     if is_made(last, b) {
         return epochs[b as usize];
@@ -50,11 +48,22 @@ pub fn epoch_at<'a>(epochs: &'a [u16; 256], last: u8, b: u8) -> u16
     0
 }
 
-// A block with the first parent, epoch and payload has also the second.
-fn is_alike(parent: u8, epoch: u16, payload: u16, p: u8, e: u16, w: u16) -> bool
-    ensures { λ r. ⌜ r ≡ alike parent epoch payload p e w ⌝ }
+// Block b has parent p, epoch e and payload w.
+fn is_match<'a>(
+    parents: &'a [u8; 256],
+    epochs: &'a [u16; 256],
+    payloads: &'a [u16; 256],
+    last: u8,
+    b: u8,
+    p: u8,
+    e: u16,
+    w: u16,
+) -> bool
+    ensures { λ r. ⌜ r ≡ matchesIn (lent parents) (lent epochs) (lent payloads) last p e w b ⌝ }
 {
-    (parent == p) & ((epoch == e) & (payload == w))
+    let parent = parent_at(parents, last, b);
+    let epoch = epoch_at(epochs, last, b);
+    (parent == p) & ((epoch == e) & (payloads[b as usize] == w))
 }
 
 // The lowest block that has parent p, epoch e and payload w; the next number where there is none.
@@ -67,14 +76,12 @@ pub fn name_block<'a>(
     e: u16,
     w: u16,
 ) -> u16
-    ensures { λ r. ⌜ r ≡ namedIn (now (parents .entry)) (now (epochs .entry)) (now (payloads .entry)) last p e w ⌝ }
+    ensures { λ r. ⌜ r ≡ namedIn (lent parents) (lent epochs) (lent payloads) last p e w ⌝ }
 {
     let mut k = 0;
     while k < last {
         let b = k + 1;
-        let parent = parent_at(parents, last, b);
-        let epoch = epoch_at(epochs, last, b);
-        if is_alike(parent, epoch, payloads[b as usize], p, e, w) {
+        if is_match(parents, epochs, payloads, last, b, p, e, w) {
             return b as u16;
         }
         k += 1;
@@ -82,17 +89,10 @@ pub fn name_block<'a>(
     (last as u16) + 1
 }
 
-// The number of messages, or that of the columns' entries where it is more.
-pub(crate) fn message_count(count: usize) -> usize
-    ensures { λ r. ⌜ r ≡ min count 1024 ⌝ }
-{
-    if count < MESSAGES { count } else { MESSAGES }
-}
-
 // Message m has that signer and that block.
 fn says<'a>(signers: &'a [u8; 1024], subjects: &'a [u8; 1024], signer: u8, b: u8, m: usize) -> bool
     requires { ⌜ m < 1024 ⌝ }
-    ensures { λ r. ⌜ r ≡ saysIn (now (signers .entry)) (now (subjects .entry)) signer b m ⌝ }
+    ensures { λ r. ⌜ r ≡ saysIn (lent signers) (lent subjects) signer b m ⌝ }
 {
     (signers[m] == signer) & (subjects[m] == b)
 }
@@ -107,7 +107,7 @@ pub fn in_history<'a>(
     signer: u8,
     b: u8,
 ) -> bool
-    ensures { λ r. ⌜ r ≡ historyIn (now (votes .entry)) (now (signers .entry)) (now (subjects .entry)) (min count 1024) vote signer b ⌝ }
+    ensures { λ r. ⌜ r ≡ historyIn (lent votes) (lent signers) (lent subjects) (min count messages) vote signer b ⌝ }
 {
     let sent = message_count(count);
     let mut found = false;
@@ -123,7 +123,7 @@ pub fn in_history<'a>(
 // compared at once.
 pub(crate) fn chunk_about<'a>(subjects: &'a [u8; 1024], from: usize, b: u8) -> bool
     requires { ⌜ from ≤ 960 ⌝ }
-    ensures { λ r. ⌜ r ≡ any 64 (λ i. eqb (getD (now (subjects .entry)) (from + i) 0) b) ⌝ }
+    ensures { λ r. ⌜ r ≡ any 64 (λ i. eqb (getD (lent subjects) (from + i) 0) b) ⌝ }
 {
     let mut found = false;
     let mut i = 0;
@@ -134,8 +134,8 @@ pub(crate) fn chunk_about<'a>(subjects: &'a [u8; 1024], from: usize, b: u8) -> b
     found
 }
 
-// One of the first `size` messages of that chunk is in office q's view, the last stage, and has that signer and that block. Signers and places are
-// read only where the chunk has a message about that block at all.
+// A message in office q's view, before the chunk that starts at `from` or among the first `size` of that chunk, has that signer and that block;
+// whether one before the chunk has is found already. Signers and places are read only where the chunk has a message about that block at all.
 fn chunk_signed<'a>(
     places: &'a [u64; 1024],
     signers: &'a [u8; 1024],
@@ -145,22 +145,23 @@ fn chunk_signed<'a>(
     q: u8,
     signer: u8,
     b: u8,
+    found: bool,
 ) -> bool
-    requires { ⌜ (from ≤ 960) × (size ≤ 64) ⌝ }
-    ensures { λ r. ⌜ r ≡ any size (λ i. both (eqb (digit 4 (getD (now (places .entry)) (from + i) 0) q) view) (saysIn (now (signers .entry)) (now (subjects .entry)) signer b (from + i))) ⌝ }
+    requires { ⌜ (from ≤ 960) × (size ≤ 64) × (found ≡ signedIn (now places) (now signers) (now subjects) from q signer b) ⌝ }
+    ensures { λ r. ⌜ r ≡ signedIn (lent places) (lent signers) (lent subjects) (from + size) q signer b ⌝ }
 {
     if !chunk_about(subjects, from, b) {
-        return false;
+        return found;
     }
+    let mut signed = found;
     let mut i = 0;
     while i < size {
         let m = from + i;
-        if words::is_last_stage(places[m], q) & says(signers, subjects, signer, b, m) {
-            return true;
-        }
+        signed = signed
+            | (words::is_last_stage(places[m], q) & says(signers, subjects, signer, b, m));
         i += 1;
     }
-    false
+    signed
 }
 
 // How many messages the chunk that starts at `from` has: a whole chunk, or what is left of the count.
@@ -185,17 +186,16 @@ pub fn is_signed<'a>(
     signer: u8,
     b: u8,
 ) -> bool
-    ensures { λ r. ⌜ r ≡ signedIn (now (places .entry)) (now (signers .entry)) (now (subjects .entry)) (min count 1024) q signer b ⌝ }
+    ensures { λ r. ⌜ r ≡ signedIn (lent places) (lent signers) (lent subjects) (min count messages) q signer b ⌝ }
 {
     let sent = message_count(count);
+    let mut found = false;
     let mut k = 0;
     while CHUNK * k < sent {
         let from = CHUNK * k;
         let size = chunk_size(from, sent);
-        if chunk_signed(places, signers, subjects, from, size, q, signer, b) {
-            return true;
-        }
+        found = chunk_signed(places, signers, subjects, from, size, q, signer, b, found);
         k += 1;
     }
-    false
+    found
 }

@@ -20,18 +20,6 @@ loop-holds : tie.Need-loop-holds Inv-loop μ-loop
 unfolding any
 loop-holds c = (search needs, refl)
 
-add-found : tie.Need-add-found Inv-loop μ-loop
-add-found c = search needs
-
-element-copy-out-found : tie.Need-element-copy-out-found Inv-loop μ-loop
-element-copy-out-found c = search needs
-
-add-i : tie.Need-add-i Inv-loop μ-loop
-add-i c = search needs
-
-loop-less : tie.Need-loop-less Inv-loop μ-loop
-loop-less c = search needs
-
 loop-again : tie.Need-loop-again Inv-loop μ-loop
 loop-again c = (search needs, any-next _ _ _ _ (c .before .before .loop .inv .1) refl)
 
@@ -43,4 +31,4 @@ returns c =
 pub chunk-about-spec : {M : Type 1} → statement M
 chunk-about-spec =
     tie.close
-    (tie.spec Inv-loop μ-loop loop-holds add-found element-copy-out-found add-i loop-less loop-again returns)
+    (tie.spec Inv-loop μ-loop loop-holds (λ c. search needs) (λ c. search needs) (λ c. search needs) (λ c. search needs) loop-again returns)

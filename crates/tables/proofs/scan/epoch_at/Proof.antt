@@ -5,15 +5,6 @@ use Rattle.tables.specs.Blocks.{epochIn}
 use Rattle.tables.proofs.scan.epoch_at.Statement.{statement}
 use Rattle.tables.proofs.scan.epoch_at.Tie as tie
 
-is-made-requires : tie.Need-is-made-requires
-is-made-requires c κs = search needs
-
-mul-result : tie.Need-mul-result
-mul-result c = search needs
-
-element-copy-out-result : tie.Need-element-copy-out-result
-element-copy-out-result c = search needs
-
 returns : tie.Need-returns
 unfolding epochIn choose
 returns c = rw (← (c .before .before .is-made .ensures), c .before .if1 .taken)
@@ -24,4 +15,4 @@ returns-2 c = rw (← (c .before .is-made .ensures), c .if1 .left)
 
 pub epoch-at-spec : {M : Type 1} → statement M
 epoch-at-spec =
-    tie.close (tie.spec is-made-requires mul-result element-copy-out-result returns returns-2)
+    tie.close (tie.spec (λ c κs. search needs) (λ c. search needs) (λ c. search needs) returns returns-2)

@@ -6,12 +6,6 @@ use Rattle.tables.specs.Blocks.{parentIn}
 use Rattle.tables.proofs.scan.parent_at.Statement.{statement}
 use Rattle.tables.proofs.scan.parent_at.Tie as tie
 
-element-copy-out-parent : tie.Need-element-copy-out-parent
-element-copy-out-parent c = search needs
-
-is-made-requires : tie.Need-is-made-requires
-is-made-requires c κs = search needs
-
 returns : tie.Need-returns
 unfolding parentIn choose
 returns c = rw (← (c .before .is-made .ensures), ← and-both, c .if1 .taken)
@@ -21,4 +15,4 @@ unfolding parentIn choose
 returns-2 c = rw (← (c .before .is-made .ensures), ← and-both, c .if1 .left)
 
 pub parent-at-spec : {M : Type 1} → statement M
-parent-at-spec = tie.close (tie.spec element-copy-out-parent is-made-requires returns returns-2)
+parent-at-spec = tie.close (tie.spec (λ c. search needs) (λ c κs. search needs) returns returns-2)

@@ -1,26 +1,20 @@
--- `tables::notary::with_signer`: a message that is about the block and in the view adds its signer; any other leaves the set as it is.
+-- `tables::view::with_signer`: a message that is about the block and in the view adds its signer; any other leaves the set as it is.
 use borrow.Author.Needs.{needs}
 use mathlib.Core.Path.{sym, _∙_}
 use borrow.Author.Tests.{eq-eqb, ne-eqb, not-true, not-false}
 use Rattle.words.specs.Tests.{choose, both}
 use Rattle.words.proofs.Tests.{both-none}
 use Rattle.tables.specs.Searches.{setOf}
-use Rattle.tables.proofs.notary.with_signer.Statement.{statement}
-use Rattle.tables.proofs.notary.with_signer.Tie as tie
+use Rattle.tables.proofs.view.with_signer.Statement.{statement}
+use Rattle.tables.proofs.view.with_signer.Tie as tie
 
 returns : tie.Need-returns
 unfolding choose both
 returns c = rw (ne-eqb _ _ (c .if1 .taken))
 
-is-last-stage-requires : tie.Need-is-last-stage-requires
-is-last-stage-requires c κs = search needs
-
 returns-2 : tie.Need-returns-2
 unfolding choose
 returns-2 c = rw (sym (c .before .is-last-stage .ensures) ∙ not-true _ (c .if2 .taken), both-none)
-
-with-member-requires : tie.Need-with-member-requires
-with-member-requires c κs = search needs
 
 returns-3 : tie.Need-returns-3
 unfolding choose both setOf
@@ -32,4 +26,4 @@ returns-3 c =
 
 pub with-signer-spec : {M : Type 1} → statement M
 with-signer-spec =
-    tie.close (tie.spec returns is-last-stage-requires returns-2 with-member-requires returns-3)
+    tie.close (tie.spec returns (λ c κs. search needs) returns-2 (λ c κs. search needs) returns-3)

@@ -1,42 +1,48 @@
-// Who signed each block, in an office's view.
+// An office's view: who signed each block.
 ghost use mathlib.Core.Path.{_≡_};
-ghost use Prim.Native.Nat.{ℕ, _+_, _≤_, _<_};
-ghost use lib.Dec.{eqb, ltb};
+ghost use Prim.Native.Nat.{_+_, _≤_, _<_, min};
+ghost use lib.Dec.{eqb};
 ghost use lib.ListN.{getD, set};
+ghost use Rattle.words.specs.Lent.{lent, given};
 ghost use Rattle.words.specs.Tests.{choose, both};
 ghost use Rattle.words.specs.Digits.{digit, withMember};
 ghost use Rattle.tables.specs.Messages.{view};
-ghost use Rattle.tables.specs.Searches.{signedIn, setOf};
+ghost use Rattle.tables.specs.Searches.{messages, blocks, signersIn, viewIn};
+use crate::limits::message_count;
 use crate::scan::CHUNK;
 use crate::scan::chunk_about;
 use crate::scan::chunk_size;
 
+// For each block the set of its signers in an office's view.
+pub type View = [u32; 256];
+
 // One message more: where it is in office q's view, the last stage, its signer is among the signers of its block. A signer from 32 up is no
-// office, and is left out. A block's number is below 256, which a caller that has it from a column learns here.
-fn note(sets: &mut [u32; 256], place: u64, q: u8, signer: u8, subject: u8)
-    ensures { λ _. ⌜ (now (sets .exit) ≡ choose (both (eqb (digit 4 place q) view) (ltb signer 32)) (set (now (sets .entry)) subject (withMember (getD (now (sets .entry)) subject 0) signer)) (now (sets .entry))) × (subject < 256) ⌝ }
+// office, and no set has it. A block's number is below 256, which a caller that has it from a column learns here.
+fn note(sets: &mut View, place: u64, q: u8, signer: u8, subject: u8)
+    ensures { λ _. ⌜ (given sets ≡ choose (eqb (digit 4 place q) view)
+        (set (lent sets) subject (withMember (getD (lent sets) subject 0) signer)) (lent sets)) × (subject < blocks) ⌝ }
 {
-    if words::is_last_stage(place, q) & (signer < 32) {
+    if words::is_last_stage(place, q) {
         let b = subject as usize;
         sets[b] = words::with_member(sets[b], signer);
     }
 }
 
-// Each block's signers in office q's view, as a set of offices, by one pass over the messages from both ends: messages next to each other are
-// often about one block, and its set would be waited for.
-pub(crate) fn gather<'a>(
+// Office q's view, by one pass over the messages from both ends: messages next to each other are often about one block, and its set would be
+// waited for.
+pub fn view_of<'a>(
     places: &'a [u64; 1024],
     signers: &'a [u8; 1024],
     subjects: &'a [u8; 1024],
     count: usize,
     q: u8,
-) -> [u32; 256]
-    requires { ⌜ count ≤ 1024 ⌝ }
-    ensures { λ r. ⌜ ((b : ℕ) → b < 256 → getD r b 0 ≡ setOf (λ s. signedIn (now (places .entry)) (now (signers .entry)) (now (subjects .entry)) count q s b)) ⌝ }
+) -> View
+    ensures { λ r. ⌜ r ≡ viewIn (lent places) (lent signers) (lent subjects) (min count messages) q ⌝ }
 {
+    let sent = message_count(count);
     let mut sets = [0u32; 256];
     let mut low = 0;
-    let mut high = count;
+    let mut high = sent;
     while low < high {
         high -= 1;
         note(&mut sets, places[low], q, signers[low], subjects[low]);
@@ -71,8 +77,8 @@ fn chunk_signers<'a>(
     b: u8,
     set: u32,
 ) -> u32
-    requires { ⌜ (from ≤ 960) × (size ≤ 64) × (set ≡ setOf (λ s. signedIn (now places) (now signers) (now subjects) from q s b)) ⌝ }
-    ensures { λ r. ⌜ r ≡ setOf (λ s. signedIn (now (places .entry)) (now (signers .entry)) (now (subjects .entry)) (from + size) q s b) ⌝ }
+    requires { ⌜ (from ≤ 960) × (size ≤ 64) × (set ≡ signersIn (now places) (now signers) (now subjects) from q b) ⌝ }
+    ensures { λ r. ⌜ r ≡ signersIn (lent places) (lent signers) (lent subjects) (from + size) q b ⌝ }
 {
     if !chunk_about(subjects, from, b) {
         return set;
@@ -87,8 +93,8 @@ fn chunk_signers<'a>(
     all
 }
 
-// The signers of block b in office q's view, as a set of offices: what `gather` gives for that one block. The messages are looked at by chunks.
-pub(crate) fn signers_of<'a>(
+// The signers of block b in office q's view: what the view has for that one block. The messages are looked at by chunks.
+pub fn signers_of<'a>(
     places: &'a [u64; 1024],
     signers: &'a [u8; 1024],
     subjects: &'a [u8; 1024],
@@ -96,14 +102,14 @@ pub(crate) fn signers_of<'a>(
     q: u8,
     b: u8,
 ) -> u32
-    requires { ⌜ count ≤ 1024 ⌝ }
-    ensures { λ r. ⌜ r ≡ setOf (λ s. signedIn (now (places .entry)) (now (signers .entry)) (now (subjects .entry)) count q s b) ⌝ }
+    ensures { λ r. ⌜ r ≡ signersIn (lent places) (lent signers) (lent subjects) (min count messages) q b ⌝ }
 {
+    let sent = message_count(count);
     let mut set = 0;
     let mut k = 0;
-    while CHUNK * k < count {
+    while CHUNK * k < sent {
         let from = CHUNK * k;
-        let size = chunk_size(from, count);
+        let size = chunk_size(from, sent);
         set = chunk_signers(places, signers, subjects, from, size, q, b, set);
         k += 1;
     }

@@ -1,24 +1,21 @@
--- `tables::notary::chunk_signers`: at each turn the set holds the block's signers by the messages before the chunk and its first i.
+-- `tables::view::chunk_signers`: at each turn the set holds the block's signers by the messages before the chunk and its first i.
 use borrow.Author.Needs.{needs}
 use Prim.Native.Nat.{_+_, _-_, _≤_}
 use mathlib.Core.Path.{_≡_, sym, _∙_}
 use native.Mathlib.Omega.{arith}
 use native.Mathlib.Nat.{add-zero}
 use borrow.Author.Tests.{not-true}
-use Rattle.tables.specs.Searches.{signedIn, setOf}
-use Rattle.tables.proofs.Gathering.{signers-next, signers-past}
-use Rattle.tables.proofs.notary.chunk_signers.Statement.{statement}
-use Rattle.tables.proofs.notary.chunk_signers.Tie as tie
+use Rattle.tables.specs.Searches.{signersIn}
+use Rattle.tables.proofs.Views.{signers-next, signers-past}
+use Rattle.tables.proofs.view.chunk_signers.Statement.{statement}
+use Rattle.tables.proofs.view.chunk_signers.Tie as tie
 
 abbrev Inv-loop : tie.InvT-loop
 Inv-loop places signers subjects from size q b set all₀ i₀ all i =
-    (i ≤ size) × (all ≡ setOf (λ s. signedIn places signers subjects (from + i) q s b))
+    (i ≤ size) × (all ≡ signersIn places signers subjects (from + i) q b)
 
 abbrev μ-loop : tie.MeasureT-loop
 μ-loop places signers subjects from size q b set all₀ i₀ all i = size - i
-
-chunk-about-requires : tie.Need-chunk-about-requires Inv-loop μ-loop
-chunk-about-requires c κs = search needs
 
 returns : tie.Need-returns Inv-loop μ-loop
 returns c =
@@ -29,30 +26,6 @@ returns c =
 
 loop-holds : tie.Need-loop-holds Inv-loop μ-loop
 loop-holds c = (search needs, rw add-zero (c .before .before .pre .2))
-
-add-m : tie.Need-add-m Inv-loop μ-loop
-add-m c = search needs
-
-mul-with-signer : tie.Need-mul-with-signer Inv-loop μ-loop
-mul-with-signer c = search needs
-
-element-copy-out-with-signer : tie.Need-element-copy-out-with-signer Inv-loop μ-loop
-element-copy-out-with-signer c = search needs
-
-element-copy-out-with-signer-2 : tie.Need-element-copy-out-with-signer-2 Inv-loop μ-loop
-element-copy-out-with-signer-2 c = search needs
-
-element-copy-out-with-signer-3 : tie.Need-element-copy-out-with-signer-3 Inv-loop μ-loop
-element-copy-out-with-signer-3 c = search needs
-
-with-signer-requires : tie.Need-with-signer-requires Inv-loop μ-loop
-with-signer-requires c κs = search needs
-
-add-i : tie.Need-add-i Inv-loop μ-loop
-add-i c = search needs
-
-loop-less : tie.Need-loop-less Inv-loop μ-loop
-loop-less c = search needs
 
 loop-again : tie.Need-loop-again Inv-loop μ-loop
 loop-again c =
@@ -75,16 +48,16 @@ chunk-signers-spec =
     (tie.spec
     Inv-loop
     μ-loop
-    chunk-about-requires
+    (λ c κs. search needs)
     returns
     loop-holds
-    add-m
-    mul-with-signer
-    element-copy-out-with-signer
-    element-copy-out-with-signer-2
-    element-copy-out-with-signer-3
-    with-signer-requires
-    add-i
-    loop-less
+    (λ c. search needs)
+    (λ c. search needs)
+    (λ c. search needs)
+    (λ c. search needs)
+    (λ c. search needs)
+    (λ c κs. search needs)
+    (λ c. search needs)
+    (λ c. search needs)
     loop-again
     returns-2)
