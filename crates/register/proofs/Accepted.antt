@@ -1,97 +1,156 @@
--- What the tests of an accepted step tell.
-use Prim.Native.Nat.{ℕ, _+_, _<_, _≤_}
+-- What the tests of an accepted step tell: one record for each step.
+use Prim.Native.Nat.{ℕ, _<_, _≤_}
 use mathlib.Core.Path.{_≡_}
 use mathlib.Core.Bool.{true, false}
-use mathlib.Core.List.{List}
 use native.Mathlib.Omega.{arith}
-use borrow.Author.Tests.{eqb-true, ltb-true, eqb-false, leb-false, not-false}
-use Rattle.words.specs.Tests.{choose}
-use Rattle.words.specs.Digits.{digit}
-use Rattle.words.specs.Refusals.{Refusal, first, until}
-use Rattle.words.proofs.Tests.{both-left}
-use Rattle.words.proofs.Digits.{digit-lt}
-use Rattle.words.proofs.Refusals.{numbered, cleared}
+use borrow.Author.Tests.{eqb-true, eqb-false, ltb-true, ltb-false, leb-false, not-false}
+use lib.Dec.{eqb, leb}
+use Rattle.words.specs.Refusals.{first}
+use Rattle.words.proofs.Tests.{both-left, both-false, either-false-left, either-false-right}
+use Rattle.words.proofs.Clearing.{clear}
 use Rattle.tables.specs.Blocks.{trustedIn}
 use Rattle.register.specs.declared.sorts.Office.{Office}
 use Rattle.register.specs.declared.sorts.Block.{Block}
 use Rattle.register.specs.declared.sorts.Message.{Message}
-use Rattle.register.specs.declared.table.Register.{Register}
-use Rattle.register.specs.Tables.{trusted, acted}
-use Rattle.register.specs.Views.{inTransit, inInbox}
-use Rattle.register.specs.Refusals.{noOffice, noMessage, barred, notInHand, notSent, messagesFull}
-use Rattle.register.specs.Steps.{propose, vote, deliver, register}
-use Rattle.register.specs.Changes.{Movable}
+use Rattle.register.specs.declared.sorts.Kind.{Kind}
+use Rattle.register.specs.declared.step.Step.{Step}
+use Rattle.register.specs.declared.step.Step.the-variants as steps
+use Rattle.register.specs.declared.table.Header.{Header}
+use Rattle.register.specs.declared.book.Book.{Book}
+use Rattle.register.specs.Tables.{trusted, acted, parentOf, epochOf, aboutOf}
+use Rattle.register.specs.Chains.{longest}
+use Rattle.register.specs.Refusals.{notInHand, inHistory, blocksFull}
+use Rattle.register.specs.Steps.{propose, vote, register, finalise, deliver, badSend, draft, advance, ruleOf}
 use Rattle.register.proofs.Places.{Placed, placed}
+use Rattle.register.proofs.Finalising.{Consecutive, consecutive}
 
 -- a trusted office is below n
-pub trusted-below : (r : Register) (q : ℕ) → trusted r q ≡ true → q < r .n
-unfolding trusted trustedIn
+pub trusted-below : (r : Book) (q : ℕ) → trusted r q ≡ true → q < r .n
+unfolding trustedIn
 trusted-below r q t = ltb-true q (r .n) (both-left _ _ t)
 
 -- a message in the inbox
-in-hand : (r : Register) (q m : ℕ) → notInHand r q m ≡ false → Placed r q m 2
-unfolding notInHand inInbox
+in-hand : (r : Book) (q m : ℕ) → notInHand r q m ≡ false → Placed r q m 2
 in-hand r q m h = placed r q m 1 (eqb-true _ 2 (not-false _ h))
 
--- a message that is delivered is in transit
-pub deliver-placed : (r : Register) (message : Message) (office : Office) → first (deliver r message office .tests) ≡ 0
-    → Placed r (office .0) (message .0) 1
-unfolding deliver numbered choose notSent inTransit
-deliver-placed r message office h =
-    let tests : List Refusal = deliver r message office .tests in
-    placed r (office .0) (message .0) 0 (eqb-true _ 1 (not-false _ (cleared 22 tests h)))
+-- a trusted office that is ready signs a block of the current epoch on a longest chain, and there is room for its message
+pub record Signs (r : Book) (q parent epoch : ℕ) : Type 0 where
+  pub trusted : trusted r q ≡ true
+  pub ready : acted r q ≡ false
+  pub longest : longest r q parent ≡ true
+  pub later : epochOf r parent < epoch
+  pub room : r .count < 1024
 
--- a message that is registered is in the inbox
-pub register-placed : (r : Register) (office : Office) (message : Message) → first (register r office message .tests) ≡ 0
-    → Placed r (office .0) (message .0) 2
-unfolding register numbered choose
-register-placed r office message h =
-    let tests : List Refusal = register r office message .tests in
-    in-hand r (office .0) (message .0) (cleared 14 tests h)
+pub record Proposes (r : Book) (q : ℕ) (new : Header) : Type 0 where
+  pub parent : new .parent .0 ≤ r .last .0
+  pub signs : Signs r q (new .parent .0) (new .epoch .0)
+  pub blocks : blocksFull r new ≡ false
 
--- a message that is in transit or in the inbox can move on
-pub movable : (r : Register) (q m k : ℕ) → r .n ≤ 32 → k < 3 → Placed r q m k → Movable (r .places) (r .count) q m
-movable r q m k few low p =
-    record { office = omega (arith, trusted-below r q (p .trusted)); sent = p .sent; room = omega (arith, p .digit) }
+-- message m is a proposal in the office's inbox, whose block b is of the current epoch
+pub record Votes (r : Book) (q m b : ℕ) : Type 0 where
+  pub message : Placed r q m 2
+  pub current : epochOf r b ≡ r .epoch .0
+  pub signs : Signs r q (parentOf r b) (epochOf r b)
 
--- an office that has not acted is ready: its bit is 0
-ready : (r : Register) (q : ℕ) → acted r q ≡ false → digit 2 (r .acted) q + 1 < 2
-unfolding acted
-ready r q h = omega (arith, digit-lt 2 (r .acted) q (omega arith), eqb-false (digit 2 (r .acted) q) 1 h)
+pub record Finalises (r : Book) (q b : ℕ) : Type 0 where
+  pub block : b ≤ r .last .0
+  pub trusted : trusted r q ≡ true
+  pub three : Consecutive r q b (parentOf r b) (parentOf r (parentOf r b))
 
-module _ (r : Register) (office : Office) (message : Message) where
-  -- a vote that passes the tests up to 12: the message has been sent, and the office is trusted
-  pub vote-known : first (until 14 (vote r office message .tests)) ≡ 0 → (message .0 < r .count) × (trusted r (office .0) ≡ true)
-  unfolding vote until numbered choose noMessage barred
-  vote-known h =
-      let tests : List Refusal = until 14 (vote r office message .tests) in
-      (leb-false (r .count) (message .0) (cleared 7 tests h), not-false _ (cleared 9 tests h))
+pub record BadSends (r : Book) (kind : Kind) (signer b : ℕ) : Type 0 where
+  pub office : signer < r .n
+  pub above : 1 ≤ b
+  pub made : b ≤ r .last .0
+  pub known : trusted r signer ≡ true → inHistory r kind signer b ≡ true
+  pub room : r .count < 1024
 
-  -- a proposal that is voted on is in the inbox
-  pub vote-placed : first (vote r office message .tests) ≡ 0 → Placed r (office .0) (message .0) 2
-  unfolding vote numbered choose
-  vote-placed h = in-hand r (office .0) (message .0) (cleared 14 (vote r office message .tests) h)
+pub record Drafts (r : Book) (new : Header) : Type 0 where
+  pub parent : new .parent .0 ≤ r .last .0
+  pub epoch : new .epoch .0 ≤ 511
+  pub blocks : blocksFull r new ≡ false
 
-  -- the office that votes is ready
-  pub vote-ready : first (vote r office message .tests) ≡ 0 → digit 2 (r .acted) (office .0) + 1 < 2
-  unfolding vote numbered choose
-  vote-ready h = ready r (office .0) (cleared 11 (vote r office message .tests) h)
+-- what is known of any accepted step
+abbrev pub Accepted : Book → Step → Type 0
+Accepted r (steps.Propose office parent w) = Proposes r (office .0) (record { parent = parent; epoch = r .epoch; payload = w })
+Accepted r (steps.Vote office message) = Votes r (office .0) (message .0) (aboutOf r (message .0))
+Accepted r (steps.Register office message) = Placed r (office .0) (message .0) 2
+Accepted r (steps.Finalise office newest) = Finalises r (office .0) (newest .0)
+Accepted r (steps.Deliver message office) = Placed r (office .0) (message .0) 1
+Accepted r (steps.BadSend sender kind signer about) = BadSends r kind (signer .0) (about .0)
+Accepted r (steps.Draft parent epoch w) = Drafts r (record { parent = parent; epoch = epoch; payload = w })
+Accepted r steps.Advance = r .epoch .0 < r .length
 
-  -- there is room for the vote
-  pub vote-room : first (vote r office message .tests) ≡ 0 → r .count < 1024
-  unfolding vote numbered choose messagesFull
-  vote-room h = leb-false 1024 (r .count) (cleared 25 (vote r office message .tests) h)
+module _ (r : Book) where
+  proposes : (office : Office) (parent : Block) (w : ℕ) → first (propose r office parent w .tests) ≡ 0
+      → Accepted r (steps.Propose office parent w)
+  unfolding propose
+  proposes office parent w h =
+      let fails = clear (propose r office parent w .tests) h in
+      record {
+        parent = ltb-false _ _ (fails .1 .0);
+        signs =
+            record {
+              trusted = not-false _ (fails .1 .1 .0);
+              ready = fails .1 .1 .1 .0;
+              longest = not-false _ (fails .1 .1 .1 .1 .1 .0);
+              later = leb-false _ _ (fails .1 .1 .1 .1 .1 .1 .0);
+              room = leb-false _ _ (fails .1 .1 .1 .1 .1 .1 .1 .1 .0);
+            };
+        blocks = fails .1 .1 .1 .1 .1 .1 .1 .0;
+      }
 
-module _ (r : Register) (office : Office) (parent : Block) (payload : ℕ) where
-  -- the office of a proposal that passes the tests up to 13 is trusted
-  pub propose-known : first (until 19 (propose r office parent payload .tests)) ≡ 0 → trusted r (office .0) ≡ true
-  unfolding propose until numbered choose barred
-  propose-known h = not-false _ (cleared 9 (until 19 (propose r office parent payload .tests)) h)
+  votes : (office : Office) (message : Message) → first (vote r office message .tests) ≡ 0 → Accepted r (steps.Vote office message)
+  unfolding vote
+  votes office message h =
+      let fails = clear (vote r office message .tests) h in
+      record {
+        message = in-hand r (office .0) (message .0) (fails .1 .1 .1 .1 .1 .0);
+        current = eqb-true _ _ (not-false _ (either-false-right _ _ (fails .1 .1 .1 .1 .1 .1 .1 .0)));
+        signs =
+            record {
+              trusted = not-false _ (fails .1 .1 .0);
+              ready = fails .1 .1 .1 .0;
+              longest = not-false _ (fails .1 .1 .1 .1 .1 .1 .1 .1 .1 .0);
+              later = leb-false _ _ (fails .1 .1 .1 .1 .1 .1 .1 .1 .1 .1 .0);
+              room = leb-false _ _ (fails .1 .1 .1 .1 .1 .1 .1 .1 .1 .1 .1 .0);
+            };
+      }
 
-  -- the office that proposes is there, and is ready
-  pub propose-ready : first (until 25 (propose r office parent payload .tests)) ≡ 0
-      → (office .0 < r .n) × (digit 2 (r .acted) (office .0) + 1 < 2)
-  unfolding propose until numbered choose noOffice
-  propose-ready h =
-      let tests : List Refusal = until 25 (propose r office parent payload .tests) in
-      (leb-false (r .n) (office .0) (cleared 5 tests h), ready r (office .0) (cleared 11 tests h))
+  finalised : (office : Office) (newest : Block) → first (finalise r office newest .tests) ≡ 0 → Accepted r (steps.Finalise office newest)
+  unfolding finalise
+  finalised office newest h =
+      let fails = clear (finalise r office newest .tests) h in
+      record {
+        block = ltb-false _ _ (fails .1 .0);
+        trusted = not-false _ (fails .1 .1 .0);
+        three = consecutive r (office .0) (newest .0) (not-false _ (fails .1 .1 .1 .0));
+      }
+
+  bad-sends : (sender : Office) (kind : Kind) (signer : Office) (about : Block) → first (badSend r sender kind signer about .tests) ≡ 0
+      → Accepted r (steps.BadSend sender kind signer about)
+  unfolding badSend
+  bad-sends sender kind signer about h =
+      let fails = clear (badSend r sender kind signer about .tests) h in
+      let none : about .0 ≡ 0 → ⊥ = eqb-false _ 0 (either-false-left _ _ (fails .1 .0)) in
+      record {
+        office = leb-false _ _ (either-false-right (leb (r .n) (sender .0)) _ (fails .0));
+        above = omega arith;
+        made = ltb-false _ _ (either-false-right (eqb (about .0) 0) _ (fails .1 .0));
+        known = λ t. not-false _ (both-false _ _ (fails .1 .1 .1 .0) t);
+        room = leb-false _ _ (fails .1 .1 .1 .1 .0);
+      }
+
+  -- a step of which no test holds
+  pub accepted : (step : Step) → first (ruleOf r step .tests) ≡ 0 → Accepted r step
+  unfolding ruleOf register deliver draft advance
+  accepted (steps.Propose office parent w) h = proposes office parent w h
+  accepted (steps.Vote office message) h = votes office message h
+  accepted (steps.Register office message) h = in-hand r (office .0) (message .0) (clear (register r office message .tests) h .1 .1 .1 .0)
+  accepted (steps.Finalise office newest) h = finalised office newest h
+  accepted (steps.Deliver message office) h =
+      placed r (office .0) (message .0) 0 (eqb-true _ 1 (not-false _ (clear (deliver r message office .tests) h .1 .1 .0)))
+  accepted (steps.BadSend sender kind signer about) h = bad-sends sender kind signer about h
+  accepted (steps.Draft parent epoch w) h =
+      let fails = clear (draft r parent epoch w .tests) h in
+      record { parent = ltb-false _ _ (fails .0); epoch = ltb-false _ _ (fails .1 .0); blocks = fails .1 .1 .0 }
+  accepted steps.Advance h = leb-false _ _ (clear (advance r .tests) h .0)

@@ -13,85 +13,82 @@ use Rattle.words.specs.Tests.{choose, both, every, member}
 use Rattle.words.proofs.Tests.{both-left, both-right, both-make, either-cases, either-left, either-right, clash, every-at}
 use Rattle.tables.specs.Blocks.{madeIn, parentIn}
 use Rattle.tables.proofs.Chains.{Down, parent-in-lt, chain-by-genesis, chain-by-step, climb-induction}
-use Rattle.register.specs.declared.table.Register.{Register}
+use Rattle.register.specs.declared.book.Book.{Book}
 use Rattle.register.specs.Tables.{parentOf, epochOf}
 use Rattle.register.specs.Views.{notarised}
-use Rattle.register.specs.Chains.{chain, chainLength, valid, chainNotarised}
+use Rattle.register.specs.Chains.{chain, chainLength, chainNotarised}
 
 -- a parent's number is smaller
-parent-lt : (r : Register) → Down (parentOf r)
-unfolding parentOf
+parent-lt : (r : Book) → Down (parentOf r)
 parent-lt r = parent-in-lt (r .parents) (r .last .0)
 
 -- genesis has no parent
-parent-genesis : (r : Register) → parentOf r 0 ≡ 0
-unfolding parentOf parentIn madeIn both choose
+parent-genesis : (r : Book) → parentOf r 0 ≡ 0
+unfolding parentIn madeIn both choose
 parent-genesis r = refl
 
 -- a parent's number is no greater, also that of genesis
-pub parent-le : (r : Register) (b : ℕ) → parentOf r b ≤ b
+pub parent-le : (r : Book) (b : ℕ) → parentOf r b ≤ b
 parent-le r zero = omega (arith, parent-genesis r)
 parent-le r (suc b) = omega (arith, parent-lt r (suc b) (omega arith))
 
 -- the chain of genesis has no block besides it
-pub chain-genesis : (r : Register) → chain r 0 ≡ []
+pub chain-genesis : (r : Book) → chain r 0 ≡ []
 unfolding chain
 chain-genesis r = chain-by-genesis (parentOf r)
 
 -- the chain of any block but genesis is the block on its parent's chain
-pub chain-step : (r : Register) (b : ℕ) → 0 < b → chain r b ≡ b ∷ chain r (parentOf r b)
+pub chain-step : (r : Book) (b : ℕ) → 0 < b → chain r b ≡ b ∷ chain r (parentOf r b)
 unfolding chain
 chain-step r b h = chain-by-step (parentOf r) (parent-lt r) b h
 
 -- a rule on chains by induction: from genesis, and from each parent to its block
-chain-induction : (r : Register) (P : ℕ → Type 0) → P 0 → ((b : ℕ) → 0 < b → P (parentOf r b) → P b) → (b : ℕ) → P b
+chain-induction : (r : Book) (P : ℕ → Type 0) → P 0 → ((b : ℕ) → 0 < b → P (parentOf r b) → P b) → (b : ℕ) → P b
 chain-induction r = climb-induction (parentOf r) (parent-lt r)
 
 -- the length of the chain of genesis is 0
-length-genesis : (r : Register) → chainLength r 0 ≡ 0
-unfolding chainLength
+length-genesis : (r : Book) → chainLength r 0 ≡ 0
 length-genesis r = ap length (chain-genesis r)
 
 -- any other block's chain is one longer than its parent's
-pub length-step : (r : Register) (b : ℕ) → 0 < b → chainLength r b ≡ suc (chainLength r (parentOf r b))
-unfolding chainLength
+pub length-step : (r : Book) (b : ℕ) → 0 < b → chainLength r b ≡ suc (chainLength r (parentOf r b))
 length-step r b h = ap length (chain-step r b h)
 
 -- a block is on its own chain
-pub on-own-chain : (r : Register) (b : ℕ) → 0 < b → member b (chain r b) ≡ true
+pub on-own-chain : (r : Book) (b : ℕ) → 0 < b → member b (chain r b) ≡ true
 unfolding member
 on-own-chain r b h = rw (chain-step r b h) (either-left (eqb b b) (member b (chain r (parentOf r b))) (eq-eqb b b refl))
 
 -- a block on the parent's chain is on the block's
-pub on-longer-chain : (r : Register) (b x : ℕ) → 0 < b → member x (chain r (parentOf r b)) ≡ true → member x (chain r b) ≡ true
+pub on-longer-chain : (r : Book) (b x : ℕ) → 0 < b → member x (chain r (parentOf r b)) ≡ true → member x (chain r b) ≡ true
 unfolding member
 on-longer-chain r b x h m = rw (chain-step r b h) (either-right (eqb x b) (member x (chain r (parentOf r b))) m)
 
 -- what holds of every block of a chain holds of every block of the parent's
-every-parent : (r : Register) (p : ℕ → Bool) (b : ℕ) → 0 < b → every p (chain r b) ≡ true → every p (chain r (parentOf r b)) ≡ true
+every-parent : (r : Book) (p : ℕ → Bool) (b : ℕ) → 0 < b → every p (chain r b) ≡ true → every p (chain r (parentOf r b)) ≡ true
 unfolding every
 every-parent r p b h e =
     both-right (p b) (every p (chain r (parentOf r b))) (subst (λ (c : List ℕ). every p c ≡ true) (chain-step r b h) e)
 
 -- the parent's chain of a notarised chain is notarised
-pub notarised-parent : (r : Register) (q b : ℕ) → 0 < b → chainNotarised r q b ≡ true → chainNotarised r q (parentOf r b) ≡ true
-unfolding chainNotarised valid
+pub notarised-parent : (r : Book) (q b : ℕ) → 0 < b → chainNotarised r q b ≡ true → chainNotarised r q (parentOf r b) ≡ true
+unfolding chainNotarised
 notarised-parent r q b h n =
     both-make _ _ (every-parent r (λ x. ltb (epochOf r (parentOf r x)) (epochOf r x)) b h (both-left _ _ n))
     (every-parent r (notarised r q) b h (both-right _ _ n))
 
 -- the chain of genesis is notarised in every view
-pub genesis-notarised : (r : Register) (q : ℕ) → chainNotarised r q 0 ≡ true
-unfolding chainNotarised valid every both
+pub genesis-notarised : (r : Book) (q : ℕ) → chainNotarised r q 0 ≡ true
+unfolding chainNotarised every both
 genesis-notarised r q = rw (chain-genesis r)
 
 -- every block of a notarised chain is notarised
-pub notarised-on : (r : Register) (q b x : ℕ) → chainNotarised r q b ≡ true → member x (chain r b) ≡ true → notarised r q x ≡ true
+pub notarised-on : (r : Book) (q b x : ℕ) → chainNotarised r q b ≡ true → member x (chain r b) ≡ true → notarised r q x ≡ true
 unfolding chainNotarised
 notarised-on r q b x n m = every-at (notarised r q) (chain r b) x (both-right _ _ n) m
 
 -- a block on the chain of b is no greater than b
-pub on-chain-le : (r : Register) (x b : ℕ) → member x (chain r b) ≡ true → x ≤ b
+pub on-chain-le : (r : Book) (x b : ℕ) → member x (chain r b) ≡ true → x ≤ b
 unfolding member
 on-chain-le r x =
     chain-induction r (λ (b : ℕ). member x (chain r b) ≡ true → x ≤ b)
@@ -101,14 +98,14 @@ on-chain-le r x =
     (either-cases (eqb x b) (member x (chain r (parentOf r b))) (subst (λ (c : List ℕ). member x c ≡ true) (chain-step r b h) m)))
 
 -- a block on the chain of b whose own chain has length k
-pub record Ancestor (r : Register) (b k : ℕ) : Type 0 where
+pub record Ancestor (r : Book) (b k : ℕ) : Type 0 where
   pub block : ℕ
   pub on-chain : member block (chain r b) ≡ true
   pub above-genesis : 0 < block
   pub length : chainLength r block ≡ k
 
 -- a chain has a block of each length from 1 up to its own
-pub ancestor : (r : Register) (k b : ℕ) → 0 < k → k ≤ chainLength r b → Ancestor r b k
+pub ancestor : (r : Book) (k b : ℕ) → 0 < k → k ≤ chainLength r b → Ancestor r b k
 ancestor r k b pos =
     chain-induction r (λ (b : ℕ). k ≤ chainLength r b → Ancestor r b k) (λ l. absurd (omega (arith, length-genesis r)))
     (λ b h ih l.
@@ -125,7 +122,7 @@ ancestor r k b pos =
     b
 
 -- two registers that agree on the parents of all blocks up to b agree on the chain of b
-pub chain-kept : (r s : Register) (b : ℕ) → ((x : ℕ) → x ≤ b → parentOf s x ≡ parentOf r x) → chain s b ≡ chain r b
+pub chain-kept : (r s : Book) (b : ℕ) → ((x : ℕ) → x ≤ b → parentOf s x ≡ parentOf r x) → chain s b ≡ chain r b
 chain-kept r s =
     chain-induction r (λ (b : ℕ). ((x : ℕ) → x ≤ b → parentOf s x ≡ parentOf r x) → chain s b ≡ chain r b)
     (λ same. chain-genesis s ∙ sym (chain-genesis r))

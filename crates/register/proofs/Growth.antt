@@ -5,7 +5,7 @@ use mathlib.Core.Bool.{Bool, true}
 use mathlib.Core.List.{List}
 use mathlib.Core.Logic.{⊎-elim}
 use native.Mathlib.Omega.{arith}
-use borrow.Author.Tests.{le-leb, leb-true}
+use borrow.Author.Tests.{le-leb}
 use lib.Dec.{eqb, ltb}
 use lib.ListN.{length}
 use Rattle.quorum.specs.Enough.{enough}
@@ -15,27 +15,26 @@ use Rattle.words.proofs.Tests.{both-left, both-right, both-make, either-cases, 
 use Rattle.words.proofs.Sums.{weigh-more}
 use Rattle.tables.specs.Blocks.{trustedIn, madeIn, parentIn, epochIn}
 use Rattle.tables.specs.Messages.{saysIn}
-use Rattle.register.specs.declared.table.Made.{Made}
-use Rattle.register.specs.declared.table.Sent.{Sent}
-use Rattle.register.specs.declared.table.Register.{Register}
-use Rattle.register.specs.Tables.{trusted, made, madeOf, parentOf, epochOf, sentOf}
-use Rattle.register.specs.Views.{inView, says, signed, signers, notarised}
-use Rattle.register.specs.Chains.{chain, chainLength, valid, chainNotarised}
+use Rattle.register.specs.declared.table.Header.{Header}
+use Rattle.register.specs.declared.book.Book.{Book}
+use Rattle.register.specs.Tables.{Content, trusted, made, headerOf, parentOf, epochOf, contentOf}
+use Rattle.register.specs.Views.{inView, says, signed, notarised}
+use Rattle.register.specs.Chains.{chain, chainLength, chainNotarised}
 use Rattle.register.proofs.Chains.{parent-le, on-chain-le, chain-kept}
 use Rattle.quorum.proofs.Enough.{enough-make, enough-least}
 use Rattle.register.proofs.Finalising.{Consecutive}
 
 -- from register r to register s
-pub record Grows (r s : Register) : Type 0 where
+pub record Grows (r s : Book) : Type 0 where
   pub n : s .n ≡ r .n
   pub trust : s .trust ≡ r .trust
   pub last : r .last .0 ≤ s .last .0
-  pub blocks : (b : ℕ) → b ≤ r .last .0 → madeOf s b ≡ madeOf r b
+  pub blocks : (b : ℕ) → b ≤ r .last .0 → headerOf s b ≡ headerOf r b
   pub count : r .count ≤ s .count
-  pub messages : (m : ℕ) → m < r .count → sentOf s m ≡ sentOf r m
+  pub messages : (m : ℕ) → m < r .count → contentOf s m ≡ contentOf r m
   pub views : (q m : ℕ) → inView r q m ≡ true → inView s q m ≡ true
 
-pub grows-refl : (r : Register) → Grows r r
+pub grows-refl : (r : Book) → Grows r r
 grows-refl r =
     record {
       n = refl;
@@ -47,7 +46,7 @@ grows-refl r =
       views = λ q m h. h;
     }
 
-pub grows-trans : {r s t : Register} → Grows r s → Grows s t → Grows r t
+pub grows-trans : {r s t : Book} → Grows r s → Grows s t → Grows r t
 grows-trans g h =
     record {
       n = h .n ∙ g .n;
@@ -59,31 +58,25 @@ grows-trans g h =
       views = λ q m v. h .views q m (g .views q m v);
     }
 
-module _ {r s : Register} (g : Grows r s) where
+module _ {r s : Book} (g : Grows r s) where
   -- the same offices are trusted
   pub trusted-kept : (q : ℕ) → trusted s q ≡ trusted r q
-  unfolding trusted
   trusted-kept q = ap₂ (λ (n t : ℕ). trustedIn n t q) (g .n) (g .trust)
 
   made-kept : (b : ℕ) → b ≤ r .last .0 → made s b ≡ made r b
-  unfolding made madeIn
+  unfolding madeIn
   made-kept b l = ap (both (ltb 0 b)) (le-leb b (s .last .0) (omega (arith, g .last)) ∙ sym (le-leb b (r .last .0) l))
-
-  -- a block that has been made stays made
-  pub made-grows : (b : ℕ) → made r b ≡ true → made s b ≡ true
-  unfolding made madeIn
-  made-grows b h = both-make _ _ (both-left _ _ h) (le-leb b (s .last .0) (omega (arith, g .last, leb-true b (r .last .0) (both-right _ _ h))))
 
   -- a block keeps its parent
   pub parent-kept : (b : ℕ) → b ≤ r .last .0 → parentOf s b ≡ parentOf r b
-  unfolding parentOf parentIn made madeOf
+  unfolding parentIn
   parent-kept b l =
-      ap₂ (λ (t : Bool) (x : Made). choose (both t (ltb (x .parent .0) b)) (x .parent .0) 0) (made-kept b l) (g .blocks b l)
+      ap₂ (λ (t : Bool) (x : Header). choose (both t (ltb (x .parent .0) b)) (x .parent .0) 0) (made-kept b l) (g .blocks b l)
 
   -- a block keeps its epoch
   pub epoch-kept : (b : ℕ) → b ≤ r .last .0 → epochOf s b ≡ epochOf r b
-  unfolding epochOf epochIn made madeOf
-  epoch-kept b l = ap₂ (λ (t : Bool) (x : Made). choose t (x .epoch .0) 0) (made-kept b l) (g .blocks b l)
+  unfolding epochIn
+  epoch-kept b l = ap₂ (λ (t : Bool) (x : Header). choose t (x .epoch .0) 0) (made-kept b l) (g .blocks b l)
 
   -- a block keeps its chain
   pub chain-same : (b : ℕ) → b ≤ r .last .0 → chain s b ≡ chain r b
@@ -91,13 +84,12 @@ module _ {r s : Register} (g : Grows r s) where
 
   -- a chain keeps its length
   pub length-kept : (b : ℕ) → b ≤ r .last .0 → chainLength s b ≡ chainLength r b
-  unfolding chainLength
   length-kept b l = ap length (chain-same b l)
 
   -- a message keeps what it says
   says-kept : (q b m : ℕ) → m < r .count → says s q b m ≡ says r q b m
-  unfolding says saysIn sentOf
-  says-kept q b m l = ap (λ (x : Sent). both (eqb (x .signer .0) q) (eqb (x .block .0) b)) (g .messages m l)
+  unfolding saysIn
+  says-kept q b m l = ap (λ (x : Content). both (eqb (x .signer .0) q) (eqb (x .about .0) b)) (g .messages m l)
 
   -- a signature that is in a view stays there
   signed-kept : (q h b : ℕ) → signed r q h b ≡ true → signed s q h b ≡ true
@@ -109,7 +101,7 @@ module _ {r s : Register} (g : Grows r s) where
 
   -- a block that is notarised in a view stays so
   notarised-kept : (q b : ℕ) → notarised r q b ≡ true → notarised s q b ≡ true
-  unfolding notarised signers tally
+  unfolding notarised tally
   notarised-kept q b t =
       let was : ℕ = weigh unit (r .n) (λ h. signed r q h b) in
       let is : ℕ = weigh unit (r .n) (λ h. signed s q h b) in
@@ -123,10 +115,10 @@ module _ {r s : Register} (g : Grows r s) where
 
   -- a chain that is notarised in a view stays so
   pub chain-notarised-kept : (q b : ℕ) → b ≤ r .last .0 → chainNotarised r q b ≡ true → chainNotarised s q b ≡ true
-  unfolding chainNotarised valid
+  unfolding chainNotarised
   chain-notarised-kept q b l t =
       let low : (x : ℕ) → member x (chain r b) ≡ true → x ≤ r .last .0 = λ x m. omega (arith, on-chain-le r x b m) in
-      let later : Register → ℕ → Bool = λ y x. ltb (epochOf y (parentOf y x)) (epochOf y x) in
+      let later : Book → ℕ → Bool = λ y x. ltb (epochOf y (parentOf y x)) (epochOf y x) in
       let later-kept : (x : ℕ) → member x (chain r b) ≡ true → later s x ≡ later r x =
       λ x m.
       ap₂ (λ (e f : ℕ). ltb e f)

@@ -6,21 +6,25 @@ use borrow.Author.Tests.{eqb-true}
 use lib.Dec.{eqb}
 use Rattle.words.specs.Tests.{choose}
 use Rattle.words.specs.Refusals.{first}
-use Rattle.register.specs.declared.table.Register.{Register}
-use Rattle.register.specs.Steps.{Rule, refusal, judged}
+use Rattle.register.specs.declared.step.Step.{Step}
+use Rattle.register.specs.declared.book.Book.{Book}
+use Rattle.register.specs.Steps.{Rule, refusal, judged, ruleOf}
+use Rattle.register.proofs.Accepted.{Accepted, accepted}
 
--- where nothing is refused, the rule's own tests refuse nothing
-pub passed : (fits : Bool) (rule : Rule) → refusal fits rule ≡ 0 → first (rule .tests) ≡ 0
+-- where nothing is refused, the book is fit and the rule's own tests refuse nothing
+pub passed : (fits : Bool) (rule : Rule) → refusal fits rule ≡ 0 → (fits ≡ true) × (first (rule .tests) ≡ 0)
 unfolding refusal first choose
-passed true rule h = h
+passed true rule h = (refl, h)
 passed false rule h = absurd (omega arith)
 
--- what holds of the register as it was, and of the effect as soon as none of the rule's tests holds, holds after the step
-pub judged-has : (P : Register → Type 0) (r : Register) (fits : Bool) (rule : Rule) → P r
-    → (first (rule .tests) ≡ 0 → P (rule .effect)) → P (judged fits r rule .register)
+-- what holds of the book as it was, and of the effect as soon as the step is accepted, holds after the step
+pub judged-has : (P : Book → Type 0) (r : Book) (fits : Bool) (step : Step) → P r
+    → (fits ≡ true → Accepted r step → P (ruleOf r step .effect)) → P (judged fits r (ruleOf r step) .book)
 unfolding judged
-judged-has P r fits rule before effect = by (eqb (refusal fits rule) 0) refl
+judged-has P r fits step before effect = by (eqb (refusal fits (ruleOf r step)) 0) refl
   where
-    by : (t : Bool) → eqb (refusal fits rule) 0 ≡ t → P (choose t (rule .effect) r)
-    by true h = unfold choose in effect (passed fits rule (eqb-true _ 0 h))
+    by : (t : Bool) → eqb (refusal fits (ruleOf r step)) 0 ≡ t → P (choose t (ruleOf r step .effect) r)
+    by true h =
+        let none = passed fits (ruleOf r step) (eqb-true _ 0 h) in
+        unfold choose in effect (none .0) (accepted r step (none .1))
     by false h = unfold choose in before

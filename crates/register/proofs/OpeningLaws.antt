@@ -1,4 +1,4 @@
--- What an opening's tests say, and how the table of leaders is filled.
+-- What an accepted opening says of its schedule, and how the table of leaders is filled.
 use Prim.Native.Nat.{ℕ, suc, _+_, _-_, _≤_, _<_}
 use mathlib.Core.Path.{_≡_, ap, _∙_}
 use mathlib.Core.List.{List, [], _∷_, _++_}
@@ -8,8 +8,8 @@ use borrow.Author.Tests.{not-false}
 use lib.ListN.{length, take, set, getD, replicate}
 use lib.Seq.{take-suc, length-take-le, append-snoc, set-at}
 use Rattle.quorum.specs.Opening.{openingRefusal}
-use Rattle.words.proofs.Tests.{between-true}
 use Rattle.words.specs.Tests.{choose}
+use Rattle.words.proofs.Tests.{between-true}
 use Rattle.words.proofs.Refusals.{numbered, cleared}
 use Rattle.register.specs.Opening.{leaderTable}
 

@@ -1,22 +1,22 @@
 -- What the stage of a message for an office says.
-use Prim.Native.Nat.{ℕ, suc, _<_, _≤_}
+use Prim.Native.Nat.{ℕ, suc, _<_}
 use mathlib.Core.Path.{_≡_, refl, ap, _∙_}
 use mathlib.Core.Bool.{Bool, true, false}
 use native.Mathlib.Omega.{arith}
 use native.Mathlib.Decide.{decLt}
-use borrow.Author.Tests.{ltb-true, lt-ltb, le-ltb}
+use borrow.Author.Tests.{ltb-true, lt-ltb}
 use lib.Dec.{ltb}
 use lib.ListN.{getD, length, List·getD-eq-default}
 use Rattle.words.specs.Tests.{choose, both}
 use Rattle.words.specs.Digits.{digit}
 use Rattle.words.proofs.Tests.{both-left, both-right, both-make}
 use Rattle.words.proofs.Digits.{digit-zero}
-use Rattle.register.specs.declared.table.Register.{Register}
+use Rattle.register.specs.declared.book.Book.{Book}
 use Rattle.register.specs.Tables.{trusted}
 use Rattle.register.specs.Views.{stage}
 
 -- message m has been sent, and stands at stage k for the trusted office q
-pub record Placed (r : Register) (q m k : ℕ) : Type 0 where
+pub record Placed (r : Book) (q m k : ℕ) : Type 0 where
   pub trusted : trusted r q ≡ true
   pub sent : m < r .count
   pub digit : digit 4 (getD (r .places) m 0) q ≡ k
@@ -27,38 +27,22 @@ unfolding choose
 kept true x k h = (refl, h)
 kept false x k h = absurd (omega arith)
 
--- where one of two tests fails nothing is kept
-kept-none : (t : Bool) (x : ℕ) → 0 ≡ choose (both t false) x 0
-unfolding choose both
-kept-none true x = refl
-kept-none false x = refl
-
 -- a stage other than absent is a digit of the message's word
-pub placed : (r : Register) (q m k : ℕ) → stage r q m ≡ suc k → Placed r q m (suc k)
+pub placed : (r : Book) (q m k : ℕ) → stage r q m ≡ suc k → Placed r q m (suc k)
 unfolding stage
 placed r q m k h =
     let t : (both (trusted r q) (ltb m (r .count)) ≡ true) × (digit 4 (getD (r .places) m 0) q ≡ suc k) = kept _ _ k h in
     record { trusted = both-left _ _ (t .0); sent = ltb-true _ _ (both-right _ _ (t .0)); digit = t .1 }
 
--- a message that has not been sent is nowhere
-pub nowhere-unsent : (r : Register) (q m : ℕ) → r .count ≤ m → 0 ≡ stage r q m
-unfolding stage
-nowhere-unsent r q m h = rw (le-ltb m (r .count) h) (kept-none (trusted r q) _)
-
--- an untrusted office keeps nothing
-pub nowhere-untrusted : (r : Register) (q m : ℕ) → trusted r q ≡ false → 0 ≡ stage r q m
-unfolding stage both choose
-nowhere-untrusted r q m h = rw h
-
 -- and the other way round
-pub placed-stage : (r : Register) (q m k : ℕ) → Placed r q m k → stage r q m ≡ k
+pub placed-stage : (r : Book) (q m k : ℕ) → Placed r q m k → stage r q m ≡ k
 unfolding stage choose
 placed-stage r q m k p =
     ap (λ (t : Bool). choose t (digit 4 (getD (r .places) m 0) q) 0) (both-make _ _ (p .trusted) (lt-ltb m (r .count) (p .sent)))
     ∙ p .digit
 
 -- a message that stands anywhere has a word in the table
-pub placed-within : (r : Register) (q m k : ℕ) → Placed r q m (suc k) → m < length (r .places)
+pub placed-within : (r : Book) (q m k : ℕ) → Placed r q m (suc k) → m < length (r .places)
 placed-within r q m k p = by (decLt m (length (r .places)))
   where
     by : Dec (m < length (r .places)) → m < length (r .places)

@@ -6,245 +6,210 @@ use mathlib.Core.Path.{_≡_}
 use lib.Dec.{eqb, leb}
 use lib.ListN.{getD, set}
 use Rattle.words.specs.Tests.{choose}
-use Rattle.words.specs.Digits.{digit, raise}
-use Rattle.register.specs.declared.change.Head.{Head}
-use Rattle.register.specs.declared.change.Change.{Change}
+use Rattle.words.specs.Digits.{withMember, withStage}
+use Rattle.words.specs.Refusals.{first}
+use Rattle.tables.specs.Messages.{inbox, view}
+use Rattle.register.specs.declared.sorts.Office.{Office}
+use Rattle.register.specs.declared.sorts.Epoch.{Epoch}
+use Rattle.register.specs.declared.sorts.Block.{Block}
+use Rattle.register.specs.declared.sorts.Message.{Message}
+use Rattle.register.specs.declared.sorts.Kind.{Kind}
 use Rattle.register.specs.declared.step.Step.{Step}
-use Rattle.register.specs.declared.table.Register.{Register}
-use Rattle.register.specs.declared.table.Stepped.{Stepped}
-use Rattle.register.specs.Steps.{quickRule}
+use Rattle.register.specs.declared.table.Header.{Header}
+use Rattle.register.specs.declared.table.OfficeState.{OfficeState}
+use Rattle.register.specs.declared.change.Clock.{Clock}
+use Rattle.register.specs.declared.change.Change.{Change}
+use Rattle.register.specs.declared.book.Book.{Book}
+use Rattle.register.specs.Books.{epoch, block, changed}
+use Rattle.register.specs.Tables.{stateIn, headerOf, parentOf, named, isVote, aboutOf}
+use Rattle.register.specs.Effects.{sentPlace, finalising}
+use Rattle.register.specs.Steps.{Rule, Outcome, judged, ruleOf, propose, vote, register, finalise, deliver, badSend, draft, advance}
 
--- the register of those single numbers and tables
-unfoldable pub whole : Head → (leaders parents epochs payloads : List ℕ) → (votes : List Bool)
-    → (signers subjects places finals : List ℕ) → Register
-whole head leaders parents epochs payloads votes signers subjects places finals =
+-- the change that leaves a book as it is, where the acting office, at that place of the table of offices, holds that state
+unfoldable pub unchangedOf : Book → (at : ℕ) → OfficeState → Change
+unchangedOf r at state =
     record {
-      n = head .n;
-      trust = head .trust;
-      length = head .length;
-      leaders = leaders;
-      epoch = head .epoch;
-      last = head .last;
-      parents = parents;
-      epochs = epochs;
-      payloads = payloads;
-      count = head .count;
-      votes = votes;
-      signers = signers;
-      subjects = subjects;
-      places = places;
-      acted = head .acted;
-      finals = finals;
-    }
-
-unfoldable pub headOf : Register → Head
-headOf r =
-    record {
-      n = r .n;
-      trust = r .trust;
-      length = r .length;
-      epoch = r .epoch;
-      last = r .last;
-      count = r .count;
-      acted = r .acted;
-    }
-
--- the change that leaves a register as it is
-unfoldable pub stillOf : Register → Change
-stillOf r =
-    record {
-      refusal = 0;
-      value = 0;
-      head = headOf r;
-      block = record { at = 0; parent = getD (r .parents) 0 0; epoch = getD (r .epochs) 0 0; payload = getD (r .payloads) 0 0 };
+      clock = record { epoch = r .epoch; acted = r .acted };
+      block = record { last = r .last; at = 0; header = headerOf r 0 };
       message =
           record {
+            count = r .count;
             at = 0;
             vote = getD (r .votes) 0 false;
-            signer = getD (r .signers) 0 0;
-            subject = getD (r .subjects) 0 0;
+            signer = record { 0 = getD (r .signers) 0 0 };
+            about = block (getD (r .about) 0 0);
             place = getD (r .places) 0 0;
           };
       place = record { at = 0; place = getD (r .places) 0 0 };
-      ending = record { at = 0; block = getD (r .finals) 0 0 };
+      office = record { at = at; state = state };
+      answer = record { value = 0; refusal = 0 };
     }
 
--- a register with a change written to it
-unfoldable pub written : Register → Change → Register
+-- a book with a change written to it
+unfoldable pub written : Book → Change → Book
 written r c =
-    record {
-      n = r .n;
-      trust = r .trust;
-      length = r .length;
-      leaders = r .leaders;
-      epoch = c .head .epoch;
-      last = c .head .last;
-      parents = set (r .parents) (c .block .at) (c .block .parent);
-      epochs = set (r .epochs) (c .block .at) (c .block .epoch);
-      payloads = set (r .payloads) (c .block .at) (c .block .payload);
-      count = c .head .count;
+    changed r (c .clock .epoch) (c .clock .acted)
+    (record {
+      last = c .block .last;
+      parents = set (r .parents) (c .block .at) (c .block .header .parent .0);
+      epochs = set (r .epochs) (c .block .at) (c .block .header .epoch .0);
+      payloads = set (r .payloads) (c .block .at) (c .block .header .payload);
+    })
+    (record {
+      count = c .message .count;
       votes = set (r .votes) (c .message .at) (c .message .vote);
-      signers = set (r .signers) (c .message .at) (c .message .signer);
-      subjects = set (r .subjects) (c .message .at) (c .message .subject);
+      signers = set (r .signers) (c .message .at) (c .message .signer .0);
+      about = set (r .about) (c .message .at) (c .message .about .0);
       places = set (set (r .places) (c .message .at) (c .message .place)) (c .place .at) (c .place .place);
-      acted = c .head .acted;
-      finals = set (r .finals) (c .ending .at) (c .ending .block);
-    }
-
--- the answer of a step by its change
-unfoldable pub stepped : Register → Change → Stepped
-stepped r c = record { register = written r c; refusal = c .refusal; value = c .value }
+    })
+    (set (r .offices) (c .office .at) (c .office .state))
 
 -- a refused step: nothing but the answer
-unfoldable pub refusing : Change → (refusal : ℕ) → Change
+abbrev pub refusing : Change → (refusal : ℕ) → Change
 refusing c k =
-    record { refusal = k; value = c .value; head = c .head; block = c .block; message = c .message; place = c .place; ending = c .ending }
-
--- refused where the refusal is not 0, else the change of the accepted step
-unfoldable pub answer : (still : Change) → (refusal : ℕ) → (accepted : Change) → Change
-answer still k accepted = choose (eqb k 0) accepted (refusing still k)
-
--- the same change with another value and other single numbers
-unfoldable pub heading : Change → (value : ℕ) → Head → Change
-heading c v head =
-    record { refusal = c .refusal; value = v; head = head; block = c .block; message = c .message; place = c .place; ending = c .ending }
-
--- single numbers with another last block
-unfoldable pub lastHead : Head → (last : ℕ) → Head
-lastHead h b =
-    record { n = h .n; trust = h .trust; length = h .length; epoch = h .epoch; last = record { 0 = b }; count = h .count; acted = h .acted }
-
--- one message more
-unfoldable pub sentHead : Head → Head
-sentHead h =
     record {
-      n = h .n;
-      trust = h .trust;
-      length = h .length;
-      epoch = h .epoch;
-      last = h .last;
-      count = h .count + 1;
-      acted = h .acted;
+      clock = c .clock;
+      block = c .block;
+      message = c .message;
+      place = c .place;
+      office = c .office;
+      answer = record { value = 0; refusal = k };
     }
+
+-- an accepted step, with its value
+abbrev pub accepting : Change → (value : ℕ) → Change
+accepting c v =
+    record {
+      clock = c .clock;
+      block = c .block;
+      message = c .message;
+      place = c .place;
+      office = c .office;
+      answer = record { value = v; refusal = 0 };
+    }
+
+-- another epoch, or other marks
+abbrev pub timing : Change → Clock → Change
+timing c clock =
+    record { clock = clock; block = c .block; message = c .message; place = c .place; office = c .office; answer = c .answer }
 
 -- office q has acted
-unfoldable pub actedHead : Head → (q : ℕ) → Head
-actedHead h q =
+abbrev pub acting : Change → (q : ℕ) → Change
+acting c q = timing c (record { epoch = c .clock .epoch; acted = withMember (c .clock .acted) q })
+
+-- block b is named: it is made, of that header, where it is the next
+unfoldable pub naming : Change → (b : ℕ) → Header → Change
+naming c b new =
     record {
-      n = h .n;
-      trust = h .trust;
-      length = h .length;
-      epoch = h .epoch;
-      last = h .last;
-      count = h .count;
-      acted = raise 2 (h .acted) q;
+      clock = c .clock;
+      block = choose (leb b (c .block .last .0)) (c .block) (record { last = block b; at = b; header = new });
+      message = c .message;
+      place = c .place;
+      office = c .office;
+      answer = c .answer;
     }
 
--- the next epoch, in which every office is ready
-unfoldable pub nextHead : Head → Head
-nextHead h =
+-- the message of that number is sent
+abbrev pub sending : Change → (m : ℕ) → (vote : Bool) → (signer : Office) → (about : Block) → (word : ℕ) → Change
+sending c m vote signer about word =
     record {
-      n = h .n;
-      trust = h .trust;
-      length = h .length;
-      epoch = record { 0 = h .epoch .0 + 1 };
-      last = h .last;
-      count = h .count;
-      acted = 0;
+      clock = c .clock;
+      block = c .block;
+      message = record { count = m + 1; at = m; vote = vote; signer = signer; about = about; place = word };
+      place = record { at = m; place = word };
+      office = c .office;
+      answer = c .answer;
     }
 
--- the word of message m's places becomes w
-unfoldable pub moving : Change → (m w : ℕ) → Change
-moving c m w =
+-- the word of message m's places becomes that word
+abbrev pub moving : Change → (m : ℕ) → (word : ℕ) → Change
+moving c m word =
     record {
-      refusal = c .refusal;
-      value = c .value;
-      head = c .head;
+      clock = c .clock;
       block = c .block;
       message = c .message;
-      place = record { at = m; place = w };
-      ending = c .ending;
+      place = record { at = m; place = word };
+      office = c .office;
+      answer = c .answer;
     }
 
--- message m has been sent, and office q's stage of it is not the last
-pub record Movable (places : List ℕ) (count q m : ℕ) : Type 0 where
-  pub office : q < 32
-  pub sent : m < count
-  pub room : digit 4 (getD places m 0) q + 1 < 4
-
--- message m moves on for office q, and is the value
-unfoldable pub movedOn : Change → (places : List ℕ) → (m q : ℕ) → Change
-movedOn c places m q = heading (moving c m (raise 4 (getD places m 0) q)) m (c .head)
-
--- office q's final block becomes b
-unfoldable pub ending : Change → (q b : ℕ) → Change
-ending c q b =
+-- the acting office holds that
+abbrev pub holding : Change → OfficeState → Change
+holding c state =
     record {
-      refusal = c .refusal;
-      value = c .value;
-      head = c .head;
+      clock = c .clock;
       block = c .block;
       message = c .message;
       place = c .place;
-      ending = record { at = q; block = b };
+      office = record { at = c .office .at; state = state };
+      answer = c .answer;
     }
 
--- block b is made so
-unfoldable pub making : Change → (b p e w : ℕ) → Change
-making c b p e w =
-    record {
-      refusal = c .refusal;
-      value = c .value;
-      head = lastHead (c .head) b;
-      block = record { at = b; parent = p; epoch = e; payload = w };
-      message = c .message;
-      place = c .place;
-      ending = c .ending;
-    }
+-- the change of a step: refused with the first of the rule's tests that holds, else accepted with the rule's value
+unfoldable pub decided : (unchanged : Change) → Rule → (accepted : Change) → Change
+decided unchanged rule accepted =
+    choose (eqb (first (rule .tests)) 0) (accepting accepted (rule .value)) (refusing unchanged (first (rule .tests)))
 
--- block b is named: it is made where it is the next
-unfoldable pub naming : Change → (b p e w : ℕ) → Change
-naming c b p e w = choose (leb b (c .head .last .0)) c (making c b p e w)
+-- the word of message m's places once it has come to a stage for office q
+abbrev pub movedPlace : Book → (m q stage : ℕ) → ℕ
+movedPlace r m q stage = withStage (getD (r .places) m 0) q stage
 
--- a message is sent; its number is the value
-unfoldable pub sending : Change → (vote : Bool) → (signer subject w : ℕ) → Change
-sending c vote signer subject w =
-    record {
-      refusal = c .refusal;
-      value = c .head .count;
-      head = sentHead (c .head);
-      block = c .block;
-      message = record { at = c .head .count; vote = vote; signer = signer; subject = subject; place = w };
-      place = record { at = c .head .count; place = w };
-      ending = c .ending;
-    }
+-- the change of each step
+unfoldable pub proposeChange : Change → Book → Office → Block → (payload : ℕ) → Change
+proposeChange c r office parent w =
+    let new : Header = record { parent = parent; epoch = r .epoch; payload = w } in
+    decided c (propose r office parent w)
+    (acting (sending (naming c (named r new) new) (r .count) false office (block (named r new)) (sentPlace r (office .0))) (office .0))
 
--- draft: block b is named, and is the value
-unfoldable pub drafted : Change → (b p e w : ℕ) → Change
-drafted c b p e w = heading (naming c b p e w) b (naming c b p e w .head)
+unfoldable pub voteChange : Change → Book → Office → Message → Change
+voteChange c r office message =
+    let about : Block = block (aboutOf r (message .0)) in
+    decided c (vote r office message)
+    (acting
+    (moving (sending c (r .count) true office about (sentPlace r (office .0))) (message .0)
+    (movedPlace r (message .0) (office .0) view))
+    (office .0))
 
--- finalise: office q's final block becomes b, and is the value
-unfoldable pub finalised : Change → (q b : ℕ) → Change
-finalised c q b = heading (ending c q b) b (c .head)
+unfoldable pub registerChange : Change → Book → Office → Message → Change
+registerChange c r office message =
+    decided c (register r office message) (moving c (message .0) (movedPlace r (message .0) (office .0) view))
 
--- vote: message m moves on for office q, a vote for block b is sent, and the office has acted
-unfoldable pub voted : Change → (places : List ℕ) → (m q b : ℕ) → (w : ℕ) → Change
-voted c places m q b w =
-    heading (moving (sending c true q b w) m (raise 4 (getD places m 0) q)) (c .head .count) (actedHead (sentHead (c .head)) q)
+unfoldable pub finaliseChange : Change → Book → Office → Block → Change
+finaliseChange c r office newest =
+    decided c (finalise r office newest) (holding c (finalising (c .office .state) (parentOf r (newest .0))))
 
--- propose: block b is named, its proposal is sent, and the office has acted
-unfoldable pub proposed : Change → (b p e x : ℕ) → (q : ℕ) → (w : ℕ) → Change
-proposed c b p e x q w =
-    heading (sending (naming c b p e x) false q b w) (c .head .count) (actedHead (sentHead (naming c b p e x .head)) q)
+unfoldable pub deliverChange : Change → Book → Message → Office → Change
+deliverChange c r message office =
+    decided c (deliver r message office) (moving c (message .0) (movedPlace r (message .0) (office .0) inbox))
+
+unfoldable pub badSendChange : Change → Book → Office → Kind → Office → Block → Change
+badSendChange c r sender kind signer about =
+    decided c (badSend r sender kind signer about) (sending c (r .count) (isVote kind) signer about (sentPlace r (sender .0)))
+
+unfoldable pub draftChange : Change → Book → Block → Epoch → (payload : ℕ) → Change
+draftChange c r parent epoch w =
+    let new : Header = record { parent = parent; epoch = epoch; payload = w } in
+    decided c (draft r parent epoch w) (naming c (named r new) new)
+
+unfoldable pub advanceChange : Change → Book → Change
+advanceChange c r = decided c (advance r) (timing c (record { epoch = epoch (r .epoch .0 + 1); acted = 0 }))
 
 -- every entry of a change is within its table
-pub record Within (c : Change) : Type 0 where
+pub record InTables (c : Change) : Type 0 where
   pub block : c .block .at < 256
   pub message : c .message .at < 1024
   pub place : c .place .at < 1024
-  pub ending : c .ending .at < 32
+  pub office : c .office .at < 32
 
--- the change that a step makes of a register: what is written and answered is the rule's
-pub record Judged (r : Register) (step : Step) (c : Change) : Type 0 where
-  pub answer : stepped r c ≡ quickRule r step
-  pub within : Within c
+-- what a change gives once it is written
+abbrev pub outcome : Book → Change → Outcome
+outcome r c = record { book = written r c; refusal = c .answer .refusal; value = c .answer .value }
+
+-- a change carries out a step: what is written and answered is what the rule gives
+pub record CarriesOut (fits : Bool) (r : Book) (step : Step) (c : Change) : Type 0 where
+  pub answer : outcome r c ≡ judged fits r (ruleOf r step)
+  pub within : InTables c
+
+-- the same of every book in which the office at that place holds that state
+abbrev pub CarriesOutFor : (fits : Bool) → (given : List OfficeState → Book) → (at : ℕ) → OfficeState → Step → Change → Type 0
+CarriesOutFor fits given at state step c = (offices : List OfficeState) → stateIn offices at ≡ state → CarriesOut fits (given offices) step c

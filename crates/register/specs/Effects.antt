@@ -3,150 +3,79 @@ use Prim.Native.Nat.{ℕ, _+_}
 use lib.Dec.{eqb, leb}
 use lib.ListN.{getD, set}
 use Rattle.words.specs.Tests.{choose}
-use Rattle.words.specs.Digits.{raise, fill}
+use Rattle.words.specs.Digits.{fill, withMember, withStage}
 use Rattle.tables.specs.Messages.{absent, transit, view}
-use Rattle.register.specs.declared.table.Made.{Made}
-use Rattle.register.specs.declared.table.Sent.{Sent}
-use Rattle.register.specs.declared.table.Register.{Register}
-use Rattle.register.specs.Tables.{epoch, block, entry, trusted, named, isVote}
+use Rattle.register.specs.declared.table.Header.{Header}
+use Rattle.register.specs.declared.table.OfficeState.{OfficeState}
+use Rattle.register.specs.declared.book.Book.{Book}
+use Rattle.register.specs.Books.{epoch, block, blocksOf, messagesOf, changed}
+use Rattle.register.specs.Tables.{Content, trusted, named, isVote}
 
 -- the next block is made so
-unfoldable pub withBlock : Register → Made → Register
+unfoldable pub withBlock : Book → Header → Book
 withBlock r new =
-    record {
-      n = r .n;
-      trust = r .trust;
-      length = r .length;
-      leaders = r .leaders;
-      epoch = r .epoch;
-      last = block (r .last .0 + 1);
-      parents = set (r .parents) (r .last .0 + 1) (new .parent .0);
-      epochs = set (r .epochs) (r .last .0 + 1) (new .epoch .0);
-      payloads = set (r .payloads) (r .last .0 + 1) (new .payload);
-      count = r .count;
-      votes = r .votes;
-      signers = r .signers;
-      subjects = r .subjects;
-      places = r .places;
-      acted = r .acted;
-      finals = r .finals;
-    }
+    let b : ℕ = r .last .0 + 1 in
+    changed r (r .epoch) (r .acted)
+    (record {
+      last = block b;
+      parents = set (r .parents) b (new .parent .0);
+      epochs = set (r .epochs) b (new .epoch .0);
+      payloads = set (r .payloads) b (new .payload);
+    })
+    (messagesOf r) (r .offices)
 
 -- a block of that parent, epoch and payload is named, and made where there is none
-unfoldable pub withNamed : Register → (parent epoch payload : ℕ) → Register
-withNamed r p e w = choose (leb (named r p e w) (r .last .0)) r (withBlock r (entry p e w))
+unfoldable pub withNamed : Book → Header → Book
+withNamed r new = choose (leb (named r new) (r .last .0)) r (withBlock r new)
 
 -- the stage in which a message that an office sends starts for office q: in transit to every trusted office but the one that acted,
 -- which has it in its view if it is trusted
-unfoldable pub sentStage : Register → (actor : ℕ) → (q : ℕ) → ℕ
+unfoldable pub sentStage : Book → (actor : ℕ) → (q : ℕ) → ℕ
 sentStage r actor q = choose (trusted r q) (choose (eqb q actor) view transit) absent
 
+-- the word of the places of a message that an office sends
+abbrev pub sentPlace : Book → (actor : ℕ) → ℕ
+sentPlace r actor = fill 4 (r .n) (sentStage r actor)
+
 -- an office sends a message: it gets the next number
-unfoldable pub withSent : Register → (actor : ℕ) → Sent → Register
-withSent r actor message =
-    record {
-      n = r .n;
-      trust = r .trust;
-      length = r .length;
-      leaders = r .leaders;
-      epoch = r .epoch;
-      last = r .last;
-      parents = r .parents;
-      epochs = r .epochs;
-      payloads = r .payloads;
-      count = r .count + 1;
-      votes = set (r .votes) (r .count) (isVote (message .kind));
-      signers = set (r .signers) (r .count) (message .signer .0);
-      subjects = set (r .subjects) (r .count) (message .block .0);
-      places = set (r .places) (r .count) (fill 4 (r .n) (sentStage r actor));
-      acted = r .acted;
-      finals = r .finals;
-    }
+unfoldable pub withSent : Book → (actor : ℕ) → Content → Book
+withSent r actor new =
+    let m : ℕ = r .count in
+    changed r (r .epoch) (r .acted) (blocksOf r)
+    (record {
+      count = m + 1;
+      votes = set (r .votes) m (isVote (new .kind));
+      signers = set (r .signers) m (new .signer .0);
+      about = set (r .about) m (new .about .0);
+      places = set (r .places) m (sentPlace r actor);
+    })
+    (r .offices)
 
--- message m moves on for office q: from transit to the inbox, or from the inbox to the view
-unfoldable pub withMoved : Register → (m : ℕ) → (q : ℕ) → Register
-withMoved r m q =
-    record {
-      n = r .n;
-      trust = r .trust;
-      length = r .length;
-      leaders = r .leaders;
-      epoch = r .epoch;
-      last = r .last;
-      parents = r .parents;
-      epochs = r .epochs;
-      payloads = r .payloads;
+-- message m comes to a stage for office q
+unfoldable pub withMoved : Book → (m q : ℕ) → (stage : ℕ) → Book
+withMoved r m q stage =
+    changed r (r .epoch) (r .acted) (blocksOf r)
+    (record {
       count = r .count;
       votes = r .votes;
       signers = r .signers;
-      subjects = r .subjects;
-      places = set (r .places) m (raise 4 (getD (r .places) m 0) q);
-      acted = r .acted;
-      finals = r .finals;
-    }
+      about = r .about;
+      places = set (r .places) m (withStage (getD (r .places) m 0) q stage);
+    })
+    (r .offices)
 
--- office q, which was ready, has acted
-unfoldable pub withActed : Register → (q : ℕ) → Register
-withActed r q =
-    record {
-      n = r .n;
-      trust = r .trust;
-      length = r .length;
-      leaders = r .leaders;
-      epoch = r .epoch;
-      last = r .last;
-      parents = r .parents;
-      epochs = r .epochs;
-      payloads = r .payloads;
-      count = r .count;
-      votes = r .votes;
-      signers = r .signers;
-      subjects = r .subjects;
-      places = r .places;
-      acted = raise 2 (r .acted) q;
-      finals = r .finals;
-    }
+-- office q has acted
+unfoldable pub withActed : Book → (q : ℕ) → Book
+withActed r q = changed r (r .epoch) (withMember (r .acted) q) (blocksOf r) (messagesOf r) (r .offices)
 
--- office q's final block becomes b
-unfoldable pub withFinal : Register → (q : ℕ) → (b : ℕ) → Register
-withFinal r q b =
-    record {
-      n = r .n;
-      trust = r .trust;
-      length = r .length;
-      leaders = r .leaders;
-      epoch = r .epoch;
-      last = r .last;
-      parents = r .parents;
-      epochs = r .epochs;
-      payloads = r .payloads;
-      count = r .count;
-      votes = r .votes;
-      signers = r .signers;
-      subjects = r .subjects;
-      places = r .places;
-      acted = r .acted;
-      finals = set (r .finals) q b;
-    }
+-- what office q holds becomes that state
+unfoldable pub withState : Book → (q : ℕ) → OfficeState → Book
+withState r q state = changed r (r .epoch) (r .acted) (blocksOf r) (messagesOf r) (set (r .offices) q state)
+
+-- a state whose final block is b
+abbrev pub finalising : OfficeState → (b : ℕ) → OfficeState
+finalising state b = record { finalised = block b }
 
 -- the next epoch, in which every office is ready
-unfoldable pub withNextEpoch : Register → Register
-withNextEpoch r =
-    record {
-      n = r .n;
-      trust = r .trust;
-      length = r .length;
-      leaders = r .leaders;
-      epoch = epoch (r .epoch .0 + 1);
-      last = r .last;
-      parents = r .parents;
-      epochs = r .epochs;
-      payloads = r .payloads;
-      count = r .count;
-      votes = r .votes;
-      signers = r .signers;
-      subjects = r .subjects;
-      places = r .places;
-      acted = 0;
-      finals = r .finals;
-    }
+unfoldable pub withNextEpoch : Book → Book
+withNextEpoch r = changed r (epoch (r .epoch .0 + 1)) 0 (blocksOf r) (messagesOf r) (r .offices)

@@ -5,39 +5,56 @@ use mathlib.Core.List.{[], _∷_}
 use lib.Dec.{ltb, leb}
 use lib.ListN.{getD}
 use Rattle.words.specs.Tests.{both, either, conj, all, between}
-use Rattle.register.specs.declared.table.Register.{Register}
-use Rattle.register.specs.Tables.{trusted, signerOf, blockOf, finalOf}
+use Rattle.register.specs.declared.book.Book.{Book}
+use Rattle.register.specs.declared.table.OfficeState.{OfficeState}
+use Rattle.register.specs.Limits.{mostOffices, mostEpochs, mostBlocks, mostMessages, widestEpoch}
+use Rattle.register.specs.Tables.{trusted, stateOf}
 
--- the single numbers: offices, schedule length, epoch and number of messages. (The number of blocks is a u8 and at most 255.)
-unfoldable pub countsFit : Register → Bool
-countsFit r = conj (between 1 32 (r .n) ∷ between 1 256 (r .length) ∷ between 1 (r .length) (r .epoch .0) ∷ leb (r .count) 1024 ∷ [])
+-- the single numbers: offices, schedule length, epoch, number of blocks and number of messages
+unfoldable pub countsFit : (n length epoch last count : ℕ) → Bool
+countsFit n length epoch last count =
+    conj
+    (between 1 mostOffices n
+    ∷ between 1 mostEpochs length
+    ∷ between 1 length epoch
+    ∷ leb last mostBlocks
+    ∷ leb count mostMessages
+    ∷ [])
 
 -- every leader of the schedule is an office
-unfoldable pub leadersFit : Register → Bool
+abbrev pub leadersFit : Book → Bool
 leadersFit r = all (r .length) (λ i. ltb (getD (r .leaders) i 0) (r .n))
 
 -- a block has a smaller parent, and an epoch up to 511
 unfoldable pub blockFits : (b parent epoch : ℕ) → Bool
-blockFits b parent epoch = both (ltb parent b) (leb epoch 511)
+blockFits b parent epoch = both (ltb parent b) (leb epoch widestEpoch)
 
 -- so has every block made
-unfoldable pub blocksFit : Register → Bool
+abbrev pub blocksFit : Book → Bool
 blocksFit r = all (r .last .0) (λ k. blockFits (k + 1) (getD (r .parents) (k + 1) 0) (getD (r .epochs) (k + 1) 0))
 
 -- a message has an office for its signer, and a block from 1 up to the last
-unfoldable pub messageFits : (n last : ℕ) → (signer subject : ℕ) → Bool
-messageFits n last signer subject = both (ltb signer n) (between 1 last subject)
+unfoldable pub messageFits : (n last : ℕ) → (signer about : ℕ) → Bool
+messageFits n last signer about = both (ltb signer n) (between 1 last about)
 
 -- so has every message sent
-unfoldable pub messagesFit : Register → Bool
-messagesFit r = all (r .count) (λ m. messageFits (r .n) (r .last .0) (signerOf r m) (blockOf r m))
+abbrev pub messagesFit : Book → Bool
+messagesFit r = all (r .count) (λ m. messageFits (r .n) (r .last .0) (getD (r .signers) m 0) (getD (r .about) m 0))
 
--- every trusted office's final block is genesis or has been made
-unfoldable pub finalsFit : Register → Bool
-finalsFit r = all (r .n) (λ q. either (not (trusted r q)) (leb (finalOf r q) (r .last .0)))
+-- what an office holds: its final block is genesis or has been made
+unfoldable pub stateFits : (last : ℕ) → OfficeState → Bool
+stateFits last state = leb (state .finalised .0) last
 
-unfoldable pub tablesFit : Register → Bool
-tablesFit r = conj (leadersFit r ∷ blocksFit r ∷ messagesFit r ∷ finalsFit r ∷ [])
+-- so does every trusted office
+abbrev pub officesFit : Book → Bool
+officesFit r = all (r .n) (λ q. either (not (trusted r q)) (stateFits (r .last .0) (stateOf r q)))
 
-unfoldable pub fit : Register → Bool
-fit r = both (countsFit r) (tablesFit r)
+unfoldable pub fit : Book → Bool
+fit r =
+    conj
+    (countsFit (r .n) (r .length) (r .epoch .0) (r .last .0) (r .count)
+    ∷ leadersFit r
+    ∷ blocksFit r
+    ∷ messagesFit r
+    ∷ officesFit r
+    ∷ [])

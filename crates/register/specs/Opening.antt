@@ -9,19 +9,21 @@ use Rattle.words.specs.Digits.{digit, fill}
 use Rattle.quorum.specs.Opening.{openingRefusal}
 use Rattle.register.specs.declared.table.Register.{Register}
 use Rattle.register.specs.declared.table.Opened.{Opened}
-use Rattle.register.specs.Tables.{epoch, block}
+use Rattle.register.specs.declared.book.Book.{Book}
+use Rattle.register.specs.Limits.{mostEpochs}
+use Rattle.register.specs.Books.{epoch, block, registerOf}
 
 -- the table of leaders: the schedule, and office 0 from its end up to entry 255
 unfoldable pub leaderTable : List ℕ → List ℕ
-leaderTable schedule = schedule ++ replicate (256 - length schedule) 0
+leaderTable schedule = schedule ++ replicate (mostEpochs - length schedule) 0
 
--- a register of epoch e with no blocks but genesis and no messages, in which all are ready and all final blocks are 0
-unfoldable pub blank : (n trust length e : ℕ) → (leaders : List ℕ) → Register
-blank n trust length e leaders =
+-- a book of epoch e with no blocks but genesis and no messages, in which all are ready and all final blocks are 0
+unfoldable pub blank : (n trust epochs e : ℕ) → (leaders : List ℕ) → Book
+blank n trust epochs e leaders =
     record {
       n = n;
       trust = trust;
-      length = length;
+      length = epochs;
       leaders = leaders;
       epoch = epoch e;
       last = block 0;
@@ -31,19 +33,22 @@ blank n trust length e leaders =
       count = 0;
       votes = replicate 1024 false;
       signers = replicate 1024 0;
-      subjects = replicate 1024 0;
+      about = replicate 1024 0;
       places = replicate 1024 0;
       acted = 0;
-      finals = replicate 32 0;
+      offices = replicate 32 (record { finalised = block 0 });
     }
 
 -- the register of a refused opening: n = 0, and every other field 0, empty or ready
 unfoldable pub closed : Register
-closed = blank 0 0 0 0 (replicate 256 0)
+closed = registerOf (blank 0 0 0 0 (replicate 256 0))
 
--- the fresh register. Bits of the trust word from n up are stored as 0.
+-- the fresh book. Bits of the trust word from n up are stored as 0.
+unfoldable pub freshBook : (n trust : ℕ) → (schedule : List ℕ) → Book
+freshBook n trust schedule = blank n (fill 2 n (digit 2 trust)) (length schedule) 1 (leaderTable schedule)
+
 unfoldable pub fresh : (n trust : ℕ) → (schedule : List ℕ) → Register
-fresh n trust schedule = blank n (fill 2 n (digit 2 trust)) (length schedule) 1 (leaderTable schedule)
+fresh n trust schedule = registerOf (freshBook n trust schedule)
 
 -- what opening gives
 unfoldable pub opening : (n trust : ℕ) → (schedule : List ℕ) → Opened

@@ -1,4 +1,4 @@
--- The tests behind a step's refusals, by the words of their numbers. Each is made on the register as it was handed in.
+-- The tests behind a step's refusals, by the words of their numbers. Each is made on the book of the register as it was handed in.
 use Prim.Native.Nat.{ℕ, _+_}
 use mathlib.Core.Bool.{Bool, false, not}
 use mathlib.Core.List.{[], _∷_}
@@ -7,62 +7,64 @@ use lib.ListN.{getD}
 use Rattle.words.specs.Tests.{both, either, conj}
 use Rattle.tables.specs.Messages.{historyIn}
 use Rattle.register.specs.declared.sorts.Kind.{Kind}
-use Rattle.register.specs.declared.table.Register.{Register}
-use Rattle.register.specs.Tables.{trusted, leaderOf, parentOf, epochOf, named, signerOf, blockOf, isVote}
+use Rattle.register.specs.declared.table.Header.{Header}
+use Rattle.register.specs.declared.book.Book.{Book}
+use Rattle.register.specs.Limits.{mostBlocks, mostMessages, widestEpoch}
+use Rattle.register.specs.Tables.{trusted, leaderOf, parentOf, epochOf, named, signerOf, aboutOf, isVote}
 use Rattle.register.specs.Views.{inTransit, inInbox, signed}
 use Rattle.register.specs.Chains.{chainNotarised, longest}
 
 -- 6: the number is not below n
-unfoldable pub noOffice : Register → ℕ → Bool
+abbrev pub noOffice : Book → ℕ → Bool
 noOffice r q = leb (r .n) q
 
 -- 7: the number is above the last block
-unfoldable pub noBlock : Register → ℕ → Bool
+abbrev pub noBlock : Book → ℕ → Bool
 noBlock r b = ltb (r .last .0) b
 
 -- 8: the number has not been sent yet
-unfoldable pub noMessage : Register → ℕ → Bool
+abbrev pub noMessage : Book → ℕ → Bool
 noMessage r m = leb (r .count) m
 
 -- 9: an epoch above 511
-unfoldable pub wide : ℕ → Bool
-wide epoch = ltb 511 epoch
+abbrev pub wide : ℕ → Bool
+wide epoch = ltb widestEpoch epoch
 
 -- 10: the actor is untrusted. 11, a trusted sender, is `trusted`; 12 is `acted`.
-unfoldable pub barred : Register → ℕ → Bool
+abbrev pub barred : Book → ℕ → Bool
 barred r q = not (trusted r q)
 
 -- 13 where it fails, 14 where it holds: the office is the leader of the current epoch
-unfoldable pub leads : Register → ℕ → Bool
+abbrev pub leads : Book → ℕ → Bool
 leads r q = eqb (leaderOf r (r .epoch .0)) q
 
 -- 15: the message is not in the office's inbox
-unfoldable pub notInHand : Register → ℕ → ℕ → Bool
+abbrev pub notInHand : Book → ℕ → ℕ → Bool
 notInHand r q m = not (inInbox r q m)
 
 -- 16 where it holds in a vote, and where it fails in a register: the message is a vote and no proposal
-unfoldable pub votes : Register → ℕ → Bool
+abbrev pub votes : Book → ℕ → Bool
 votes r m = getD (r .votes) m false
 
 -- 17: the message's signer is not the leader, or its block's epoch is not the current one
-unfoldable pub offEpoch : Register → ℕ → Bool
-offEpoch r m = either (not (leads r (signerOf r m))) (not (eqb (epochOf r (blockOf r m)) (r .epoch .0)))
+abbrev pub offEpoch : Book → ℕ → Bool
+offEpoch r m = either (not (leads r (signerOf r m))) (not (eqb (epochOf r (aboutOf r m)) (r .epoch .0)))
 
 -- 18: the signature of the message's signer on the message's block is in the office's view
-unfoldable pub entered : Register → ℕ → ℕ → Bool
-entered r q m = signed r q (signerOf r m) (blockOf r m)
+abbrev pub entered : Book → ℕ → ℕ → Bool
+entered r q m = signed r q (signerOf r m) (aboutOf r m)
 
 -- 19: the parent's chain is not notarised in the office's view, or not longest there
-unfoldable pub notLongest : Register → ℕ → ℕ → Bool
+abbrev pub notLongest : Book → ℕ → ℕ → Bool
 notLongest r q parent = not (longest r q parent)
 
 -- 20: the block's epoch is not above its parent's
-unfoldable pub epochs : (epoch : ℕ) → (parentEpoch : ℕ) → Bool
+abbrev pub epochs : (epoch : ℕ) → (parentEpoch : ℕ) → Bool
 epochs epoch parentEpoch = leb epoch parentEpoch
 
 -- block b, its parent c and c's parent d are not genesis, their epochs are k + 2, k + 1 and k, and b's chain is notarised in
 -- the office's view
-unfoldable pub finalises : Register → ℕ → ℕ → Bool
+unfoldable pub finalises : Book → ℕ → ℕ → Bool
 finalises r q b =
     conj
     (not (eqb b 0)
@@ -74,29 +76,29 @@ finalises r q b =
     ∷ [])
 
 -- 21: the condition for finalising is unmet
-unfoldable pub notFinal : Register → ℕ → ℕ → Bool
+abbrev pub notFinal : Book → ℕ → ℕ → Bool
 notFinal r q b = not (finalises r q b)
 
 -- a message of that kind, signer and block has been sent
-unfoldable pub inHistory : Register → Kind → ℕ → ℕ → Bool
-inHistory r kind signer b = historyIn (r .votes) (r .signers) (r .subjects) (r .count) (isVote kind) signer b
+abbrev pub inHistory : Book → Kind → ℕ → ℕ → Bool
+inHistory r kind signer b = historyIn (r .votes) (r .signers) (r .about) (r .count) (isVote kind) signer b
 
 -- 22: the signer is trusted, and this kind, signer and block are not in the history
-unfoldable pub forged : Register → Kind → ℕ → ℕ → Bool
+abbrev pub forged : Book → Kind → ℕ → ℕ → Bool
 forged r kind signer b = both (trusted r signer) (not (inHistory r kind signer b))
 
 -- 23: the message is not in transit to the office
-unfoldable pub notSent : Register → ℕ → ℕ → Bool
+abbrev pub notSent : Book → ℕ → ℕ → Bool
 notSent r q m = not (inTransit r q m)
 
 -- 24: the current epoch is the schedule's last
-unfoldable pub spent : Register → Bool
+abbrev pub spent : Book → Bool
 spent r = leb (r .length) (r .epoch .0)
 
 -- 25: a new block is needed, and there are 255
-unfoldable pub blocksFull : Register → ℕ → ℕ → ℕ → Bool
-blocksFull r parent epoch payload = both (ltb (r .last .0) (named r parent epoch payload)) (leb 255 (r .last .0))
+abbrev pub blocksFull : Book → Header → Bool
+blocksFull r new = both (ltb (r .last .0) (named r new)) (leb mostBlocks (r .last .0))
 
 -- 26: there are 1,024 messages
-unfoldable pub messagesFull : Register → Bool
-messagesFull r = leb 1024 (r .count)
+abbrev pub messagesFull : Book → Bool
+messagesFull r = leb mostMessages (r .count)

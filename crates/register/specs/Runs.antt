@@ -1,25 +1,51 @@
--- Steps one after the other.
-use Prim.Native.Nat.{ℕ, zero, suc}
-use mathlib.Core.List.{List}
-use lib.ListN.{getD, set, replicate}
+-- Steps one after the other: what they give, and the moments of a list of steps from an opening.
+use Prim.Native.Nat.{ℕ, _-_}
+use mathlib.Core.Path.{_≡_}
+use mathlib.Core.List.{List, [], _∷_, _++_, map}
+use lib.ListN.{length, take, replicate}
 use Rattle.register.specs.declared.step.Step.{Step}
-use Rattle.register.specs.declared.step.Step.the-variants.{Propose}
 use Rattle.register.specs.declared.table.Register.{Register}
 use Rattle.register.specs.declared.table.Stepped.{Stepped}
 use Rattle.register.specs.declared.table.Ran.{Ran}
-use Rattle.register.specs.Tables.{office, block}
-use Rattle.register.specs.Steps.{quickRule}
+use Rattle.register.specs.Limits.{batch}
+use Rattle.register.specs.Opening.{opening}
+use Rattle.register.specs.Steps.{stepRule}
 
--- step i of a list, counted from 0
-unfoldable pub stepAt : List Step → ℕ → Step
-stepAt steps i = getD steps i (Propose (office 0) (block 0) 0)
+-- the register after some steps, each made on the register that the one before it gave back, accepted or refused
+unfoldable pub afterSteps : Register → List Step → Register
+afterSteps r [] = r
+afterSteps r (step ∷ later) = afterSteps (stepRule r step .register) later
 
--- one more answer, at place i
-unfoldable pub andThen : Ran → (i : ℕ) → Stepped → Ran
-andThen ran i s =
-    record { register = s .register; refusals = set (ran .refusals) i (s .refusal); values = set (ran .values) i (s .value) }
+-- the answers to some steps
+unfoldable pub answers : Register → List Step → List Stepped
+answers r [] = []
+answers r (step ∷ later) = stepRule r step ∷ answers (stepRule r step .register) later
 
--- the first i of a list of steps: the register after them, and the answer of each at its place
-unfoldable pub ranFirst : Register → List Step → (i : ℕ) → Ran
-ranFirst r steps zero = record { register = r; refusals = replicate 256 0; values = replicate 256 0 }
-ranFirst r steps (suc i) = andThen (ranFirst r steps i) i (quickRule (ranFirst r steps i .register) (stepAt steps i))
+-- a batch's table of numbers: those given, and 0 behind them
+unfoldable pub padded : List ℕ → List ℕ
+padded numbers = numbers ++ replicate (batch - length numbers) 0
+
+-- what a batch of steps gives
+unfoldable pub ran : Register → List Step → Ran
+ran r steps =
+    record {
+      register = afterSteps r steps;
+      refusals = padded (map (λ (s : Stepped). s .refusal) (answers r steps));
+      values = padded (map (λ (s : Stepped). s .value) (answers r steps));
+    }
+
+-- an opening that is not refused, and a list of steps
+pub record Run : Type 0 where
+  pub n : ℕ
+  pub trust : ℕ
+  pub schedule : List ℕ
+  pub accepted : opening n trust schedule .refusal ≡ 0
+  pub steps : List Step
+
+-- the register that the opening gives
+unfoldable pub opened : Run → Register
+opened run = opening (run .n) (run .trust) (run .schedule) .register
+
+-- moment i of a run: moment 0 is the opening, moment i the state after step i; where there are fewer steps, the state after all of them
+unfoldable pub moment : Run → ℕ → Register
+moment run i = afterSteps (opened run) (take i (run .steps))

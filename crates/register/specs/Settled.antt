@@ -2,38 +2,51 @@
 -- crate cite these definitions; no promise to makers does.
 use Prim.Native.Nat.{ℕ, _<_, _≤_}
 use mathlib.Core.Bool.{true}
-use mathlib.Core.List.{List}
 use mathlib.Core.Path.{_≡_}
-use lib.Dec.{eqb, ltb}
-use lib.ListN.{getD}
-use Rattle.words.specs.Tests.{choose, both}
-use Rattle.words.specs.Digits.{digit, withMember}
+use lib.Dec.{eqb}
+use Rattle.words.specs.Tests.{choose}
+use Rattle.words.specs.Digits.{digit}
+use Rattle.register.specs.declared.sorts.Office.{Office}
+use Rattle.register.specs.declared.sorts.Block.{Block}
 use Rattle.register.specs.declared.step.Step.{Step}
 use Rattle.register.specs.declared.step.Step.the-variants as steps
-use Rattle.register.specs.declared.table.Register.{Register}
+use Rattle.register.specs.declared.table.OfficeState.{OfficeState}
+use Rattle.register.specs.declared.actor.Actor.{Actor}
+use Rattle.register.specs.declared.book.Book.{Book}
+use Rattle.register.specs.Books.{block}
 use Rattle.register.specs.Tables.{finalOf}
 use Rattle.register.specs.Chains.{chainNotarised}
 
 -- office q's final block is not above the last block, and its chain is notarised in the office's view
-pub record Settled (r : Register) (q : ℕ) : Type 0 where
+pub record Settled (r : Book) (q : ℕ) : Type 0 where
   pub made : finalOf r q ≤ r .last .0
   pub notarised : chainNotarised r q (finalOf r q) ≡ true
 
 -- the same of each office of a set
-abbrev pub AllSettled : Register → (set : ℕ) → Type 0
+abbrev pub AllSettled : Book → (set : ℕ) → Type 0
 AllSettled r set = (q : ℕ) → q < 32 → eqb (digit 2 set q) 1 ≡ true → Settled r q
 
--- the final block of an office of the set; of any other genesis, whose chain is notarised in every view
-unfoldable pub settledIn : (finals : List ℕ) → (set q : ℕ) → ℕ
-settledIn finals set q = choose (both (ltb q 32) (eqb (digit 2 set q) 1)) (getD finals q 0) 0
+-- block b's chain is notarised in office q's view
+abbrev pub Base : Book → (q b : ℕ) → Type 0
+Base r q b = chainNotarised r q b ≡ true
 
--- the set with the office that an accepted finalise step made a block final for; of any other step the set as it is
-unfoldable pub withSettled : (set : ℕ) → Step → ℕ
-withSettled set (steps.Propose office parent payload) = set
-withSettled set (steps.Vote office message) = set
-withSettled set (steps.Register office message) = set
-withSettled set (steps.Finalise office newest) = withMember set (office .0)
-withSettled set (steps.Deliver message office) = set
-withSettled set (steps.BadSend sender kind signer about) = set
-withSettled set (steps.Draft parent epoch payload) = set
-withSettled set steps.Advance = set
+-- such a block for the acting office: its final block where the office is in the set, else genesis
+abbrev pub settledBase : OfficeState → (set q : ℕ) → Block
+settledBase state set q = choose (eqb (digit 2 set q) 1) (state .finalised) (block 0)
+
+-- the office whose state a step may change; one that is not there for a step that changes none
+unfoldable pub actorOf : Step → Office
+actorOf (steps.Propose office parent payload) = record { 0 = 32 }
+actorOf (steps.Vote office message) = record { 0 = 32 }
+actorOf (steps.Register office message) = record { 0 = 32 }
+actorOf (steps.Finalise office newest) = office
+actorOf (steps.Deliver message office) = record { 0 = 32 }
+actorOf (steps.BadSend sender kind signer about) = record { 0 = 32 }
+actorOf (steps.Draft parent epoch payload) = record { 0 = 32 }
+actorOf steps.Advance = record { 0 = 32 }
+
+-- what is known of a step's actor: its place in the table, which is its number where the table has that, and its base
+pub record Acts (r : Book) (step : Step) (actor : Actor) : Type 0 where
+  pub within : actor .at < 32
+  pub own : actorOf step .0 < 32 → actor .at ≡ actorOf step .0
+  pub base : Base r (actorOf step .0) (actor .base .0)

@@ -14,10 +14,14 @@ use Rattle.register.specs.declared.sorts.Kind.{Kind}
 use Rattle.register.specs.declared.sorts.Kind.the-variants as kinds
 use Rattle.register.specs.declared.step.Step.{Step}
 use Rattle.register.specs.declared.step.Step.the-variants as steps
+use Rattle.register.specs.declared.table.Header.{Header}
 use Rattle.register.specs.declared.table.Register.{Register}
 use Rattle.register.specs.declared.table.Stepped.{Stepped}
-use Rattle.register.specs.Tables.{trusted, acted, office, block, parentOf, epochOf, named, blockOf}
-use Rattle.register.specs.Fitness.{countsFit, fit}
+use Rattle.register.specs.declared.book.Book.{Book}
+use Rattle.tables.specs.Messages.{inbox, view}
+use Rattle.register.specs.Books.{block, bookOf, registerOf}
+use Rattle.register.specs.Tables.{trusted, acted, stateOf, parentOf, epochOf, named, aboutOf}
+use Rattle.register.specs.Fitness.{fit}
 use Rattle.register.specs.Refusals.{
   noOffice,
   noBlock,
@@ -38,20 +42,20 @@ use Rattle.register.specs.Refusals.{
   blocksFull,
   messagesFull,
 }
-use Rattle.register.specs.Effects.{withNamed, withSent, withMoved, withActed, withFinal, withNextEpoch}
+use Rattle.register.specs.Effects.{withNamed, withSent, withMoved, withActed, withState, finalising, withNextEpoch}
 
 -- what a step's rule says: its tests, and what an accepted step gives
 pub record Rule : Type 0 where
   pub tests : List Refusal
-  pub effect : Register
+  pub effect : Book
   pub value : ℕ
 
 -- Propose: the block of the current epoch is named; its proposal is sent, is in the office's view, and the office has acted.
-unfoldable pub propose : Register → Office → Block → (payload : ℕ) → Rule
+unfoldable pub propose : Book → Office → Block → (payload : ℕ) → Rule
 propose r office parent w =
     let q : ℕ = office .0 in
     let p : ℕ = parent .0 in
-    let e : ℕ = r .epoch .0 in
+    let new : Header = record { parent = parent; epoch = r .epoch; payload = w } in
     record {
       tests =
           (noOffice r q ⇒ 6)
@@ -60,23 +64,23 @@ propose r office parent w =
           ∷ (acted r q ⇒ 12)
           ∷ (not (leads r q) ⇒ 13)
           ∷ (notLongest r q p ⇒ 19)
-          ∷ (epochs e (epochOf r p) ⇒ 20)
-          ∷ (blocksFull r p e w ⇒ 25)
+          ∷ (epochs (r .epoch .0) (epochOf r p) ⇒ 20)
+          ∷ (blocksFull r new ⇒ 25)
           ∷ (messagesFull r ⇒ 26)
           ∷ [];
       effect =
           withActed
-          (withSent (withNamed r p e w) q (record { kind = kinds.Proposal; signer = office; block = block (named r p e w) }))
+          (withSent (withNamed r new) q (record { kind = kinds.Proposal; signer = office; about = block (named r new) }))
           q;
       value = r .count;
     }
 
 -- Vote: the proposal moves from inbox to view; a vote for its block is sent and is in the view; the office has acted.
-unfoldable pub vote : Register → Office → Message → Rule
+unfoldable pub vote : Book → Office → Message → Rule
 vote r office message =
     let q : ℕ = office .0 in
     let m : ℕ = message .0 in
-    let b : ℕ = blockOf r m in
+    let b : ℕ = aboutOf r m in
     record {
       tests =
           (noOffice r q ⇒ 6)
@@ -92,12 +96,15 @@ vote r office message =
           ∷ (epochs (epochOf r b) (epochOf r (parentOf r b)) ⇒ 20)
           ∷ (messagesFull r ⇒ 26)
           ∷ [];
-      effect = withActed (withSent (withMoved r m q) q (record { kind = kinds.Vote; signer = office; block = block b })) q;
+      effect =
+          withActed
+          (withSent (withMoved r m q view) q (record { kind = kinds.Vote; signer = office; about = block b }))
+          q;
       value = r .count;
     }
 
 -- Register: a vote moves from inbox to view.
-unfoldable pub register : Register → Office → Message → Rule
+unfoldable pub register : Book → Office → Message → Rule
 register r office message =
     let q : ℕ = office .0 in
     let m : ℕ = message .0 in
@@ -110,35 +117,35 @@ register r office message =
           ∷ (not (votes r m) ⇒ 16)
           ∷ (entered r q m ⇒ 18)
           ∷ [];
-      effect = withMoved r m q;
+      effect = withMoved r m q view;
       value = m;
     }
 
 -- Finalise: the final block becomes the parent of a block that meets the condition.
-unfoldable pub finalise : Register → Office → Block → Rule
+unfoldable pub finalise : Book → Office → Block → Rule
 finalise r office newest =
     let q : ℕ = office .0 in
     let b : ℕ = newest .0 in
     record {
       tests = (noOffice r q ⇒ 6) ∷ (noBlock r b ⇒ 7) ∷ (barred r q ⇒ 10) ∷ (notFinal r q b ⇒ 21) ∷ [];
-      effect = withFinal r q (parentOf r b);
+      effect = withState r q (finalising (stateOf r q) (parentOf r b));
       value = parentOf r b;
     }
 
 -- Deliver: a message moves from transit to the inbox.
-unfoldable pub deliver : Register → Message → Office → Rule
+unfoldable pub deliver : Book → Message → Office → Rule
 deliver r message office =
     let q : ℕ = office .0 in
     let m : ℕ = message .0 in
     record {
       tests = (noOffice r q ⇒ 6) ∷ (noMessage r m ⇒ 8) ∷ (notSent r q m ⇒ 23) ∷ [];
-      effect = withMoved r m q;
+      effect = withMoved r m q inbox;
       value = m;
     }
 
 -- Bad send: an untrusted office sends what it likes, but for the signatures of trusted offices that they never sent. Block 0 is
 -- refused with 7.
-unfoldable pub badSend : Register → Office → Kind → Office → Block → Rule
+unfoldable pub badSend : Book → Office → Kind → Office → Block → Rule
 badSend r sender kind signer about =
     let b : ℕ = about .0 in
     record {
@@ -149,27 +156,26 @@ badSend r sender kind signer about =
           ∷ (forged r kind (signer .0) b ⇒ 22)
           ∷ (messagesFull r ⇒ 26)
           ∷ [];
-      effect = withSent r (sender .0) (record { kind = kind; signer = signer; block = about });
+      effect = withSent r (sender .0) (record { kind = kind; signer = signer; about = about });
       value = r .count;
     }
 
 -- Draft: names a block, sends nothing.
-unfoldable pub draft : Register → Block → Epoch → (payload : ℕ) → Rule
+unfoldable pub draft : Book → Block → Epoch → (payload : ℕ) → Rule
 draft r parent epoch w =
-    let p : ℕ = parent .0 in
-    let e : ℕ = epoch .0 in
+    let new : Header = record { parent = parent; epoch = epoch; payload = w } in
     record {
-      tests = (noBlock r p ⇒ 7) ∷ (wide e ⇒ 9) ∷ (blocksFull r p e w ⇒ 25) ∷ [];
-      effect = withNamed r p e w;
-      value = named r p e w;
+      tests = (noBlock r (parent .0) ⇒ 7) ∷ (wide (epoch .0) ⇒ 9) ∷ (blocksFull r new ⇒ 25) ∷ [];
+      effect = withNamed r new;
+      value = named r new;
     }
 
 -- Advance: next epoch, every trusted office ready.
-unfoldable pub advance : Register → Rule
+unfoldable pub advance : Book → Rule
 advance r = record { tests = (spent r ⇒ 24) ∷ []; effect = withNextEpoch r; value = r .epoch .0 + 1 }
 
 -- the rule of a step
-unfoldable pub ruleOf : Register → Step → Rule
+unfoldable pub ruleOf : Book → Step → Rule
 ruleOf r (steps.Propose office parent payload) = propose r office parent payload
 ruleOf r (steps.Vote office message) = vote r office message
 ruleOf r (steps.Register office message) = register r office message
@@ -183,19 +189,26 @@ ruleOf r steps.Advance = advance r
 unfoldable pub refusal : (fits : Bool) → Rule → ℕ
 refusal fits rule = first ((not fits ⇒ 5) ∷ rule .tests)
 
--- a refused step leaves the register as it was, with value 0; an accepted one gives the effect and the value
-unfoldable pub judged : (fits : Bool) → Register → Rule → Stepped
+-- what a step gives, by the book: the book after it, 0 or the refusal, and the value
+pub record Outcome : Type 0 where
+  pub book : Book
+  pub refusal : ℕ
+  pub value : ℕ
+
+-- a refused step leaves the book as it was, with value 0; an accepted one gives the effect and the value
+unfoldable pub judged : (fits : Bool) → Book → Rule → Outcome
 judged fits r rule =
     record {
-      register = choose (eqb (refusal fits rule) 0) (rule .effect) r;
+      book = choose (eqb (refusal fits rule) 0) (rule .effect) r;
       refusal = refusal fits rule;
       value = choose (eqb (refusal fits rule) 0) (rule .value) 0;
     }
 
+unfoldable pub bookRule : Book → Step → Outcome
+bookRule r step = judged (fit r) r (ruleOf r step)
+
 -- what a step gives
 unfoldable pub stepRule : Register → Step → Stepped
-stepRule r step = judged (fit r) r (ruleOf r step)
-
--- the same where only the single numbers of the register are tested and not its tables: for whoever runs a list from an opening
-unfoldable pub quickRule : Register → Step → Stepped
-quickRule r step = judged (countsFit r) r (ruleOf r step)
+stepRule r step =
+    let given : Outcome = bookRule (bookOf r) step in
+    record { register = registerOf (given .book); refusal = given .refusal; value = given .value }

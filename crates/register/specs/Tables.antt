@@ -1,67 +1,69 @@
--- Offices, blocks and messages as the register's tables hold them. Inside the rules a number is an ℕ; a rule's own parameters are of
--- the four sorts. A definition that ends in `In` speaks of columns and stands in the specs of `tables`; here it is said of a register.
+-- Offices, blocks and messages as the book holds them. Inside the rules a number is an ℕ; a rule's own parameters are of the four sorts. A
+-- definition that ends in `In` speaks of columns and stands in the specs of `tables`; here it is said of a book.
 use Prim.Native.Nat.{ℕ, _-_}
 use mathlib.Core.Bool.{Bool, true, false}
+use mathlib.Core.List.{List}
 use lib.Dec.{eqb}
 use lib.ListN.{getD}
+use Rattle.words.specs.Tests.{choose}
 use Rattle.words.specs.Digits.{digit}
 use Rattle.tables.specs.Blocks.{trustedIn, madeIn, parentIn, epochIn, namedIn}
 use Rattle.register.specs.declared.sorts.Office.{Office}
-use Rattle.register.specs.declared.sorts.Epoch.{Epoch}
 use Rattle.register.specs.declared.sorts.Block.{Block}
 use Rattle.register.specs.declared.sorts.Kind.{Kind}
 use Rattle.register.specs.declared.sorts.Kind.the-variants.{Proposal, Vote}
-use Rattle.register.specs.declared.table.Made.{Made}
-use Rattle.register.specs.declared.table.Sent.{Sent}
-use Rattle.register.specs.declared.table.Register.{Register}
-
-abbrev pub office : ℕ → Office
-office q = record { 0 = q }
-
-abbrev pub epoch : ℕ → Epoch
-epoch e = record { 0 = e }
-
-abbrev pub block : ℕ → Block
-block b = record { 0 = b }
+use Rattle.register.specs.declared.table.OfficeState.{OfficeState}
+use Rattle.register.specs.declared.table.Header.{Header}
+use Rattle.register.specs.declared.book.Book.{Book}
+use Rattle.register.specs.Books.{office, epoch, block}
 
 -- the office is there, and its bit in the trust word is 1
-unfoldable pub trusted : Register → ℕ → Bool
+abbrev pub trusted : Book → ℕ → Bool
 trusted r q = trustedIn (r .n) (r .trust) q
 
 -- the office's bit in the word of those that have acted is 1
-unfoldable pub acted : Register → ℕ → Bool
+abbrev pub acted : Book → ℕ → Bool
 acted r q = eqb (digit 2 (r .acted) q) 1
 
 -- the leader of an epoch
-unfoldable pub leaderOf : Register → ℕ → ℕ
+abbrev pub leaderOf : Book → ℕ → ℕ
 leaderOf r e = getD (r .leaders) (e - 1) 0
 
+-- what an office holds
+abbrev pub stateIn : List OfficeState → ℕ → OfficeState
+stateIn offices q = getD offices q (record { finalised = block 0 })
+
+abbrev pub stateOf : Book → ℕ → OfficeState
+stateOf r q = stateIn (r .offices) q
+
 -- an office's final block
-unfoldable pub finalOf : Register → ℕ → ℕ
-finalOf r q = getD (r .finals) q 0
+abbrev pub finalOf : Book → ℕ → ℕ
+finalOf r q = stateOf r q .finalised .0
+
+-- the final block of a trusted office; genesis for a number that is none
+abbrev pub finalFor : Book → ℕ → ℕ
+finalFor r q = choose (trusted r q) (finalOf r q) 0
 
 -- what a block is made of
-abbrev pub entry : (parent epoch payload : ℕ) → Made
-entry p e w = record { parent = block p; epoch = epoch e; payload = w }
-
-unfoldable pub madeOf : Register → ℕ → Made
-madeOf r b = entry (getD (r .parents) b 0) (getD (r .epochs) b 0) (getD (r .payloads) b 0)
+abbrev pub headerOf : Book → ℕ → Header
+headerOf r b =
+    record { parent = block (getD (r .parents) b 0); epoch = epoch (getD (r .epochs) b 0); payload = getD (r .payloads) b 0 }
 
 -- a block from 1 up to the last
-unfoldable pub made : Register → ℕ → Bool
+abbrev pub made : Book → ℕ → Bool
 made r b = madeIn (r .last .0) b
 
 -- a block's parent; genesis where the block has none, or where its entry names no smaller block
-unfoldable pub parentOf : Register → ℕ → ℕ
+abbrev pub parentOf : Book → ℕ → ℕ
 parentOf r b = parentIn (r .parents) (r .last .0) b
 
 -- a block's epoch; genesis has epoch 0
-unfoldable pub epochOf : Register → ℕ → ℕ
+abbrev pub epochOf : Book → ℕ → ℕ
 epochOf r b = epochIn (r .epochs) (r .last .0) b
 
 -- the lowest block from 1 up that has that parent, epoch and payload; the next number where there is none
-unfoldable pub named : Register → ℕ → ℕ → ℕ → ℕ
-named r p e w = namedIn (r .parents) (r .epochs) (r .payloads) (r .last .0) p e w
+abbrev pub named : Book → Header → ℕ
+named r h = namedIn (r .parents) (r .epochs) (r .payloads) (r .last .0) (h .parent .0) (h .epoch .0) (h .payload)
 
 -- a message is a vote or a proposal
 unfoldable pub kindOf : (vote : Bool) → Kind
@@ -72,17 +74,23 @@ unfoldable pub isVote : Kind → Bool
 isVote Vote = true
 isVote Proposal = false
 
+-- what a message says: its kind, its signer and its block
+pub record Content : Type 0 where
+  pub kind : Kind
+  pub signer : Office
+  pub about : Block
+
 -- what message m says
-unfoldable pub sentOf : Register → ℕ → Sent
-sentOf r m =
+abbrev pub contentOf : Book → ℕ → Content
+contentOf r m =
     record {
       kind = kindOf (getD (r .votes) m false);
       signer = office (getD (r .signers) m 0);
-      block = block (getD (r .subjects) m 0);
+      about = block (getD (r .about) m 0);
     }
 
-abbrev pub signerOf : Register → ℕ → ℕ
-signerOf r m = sentOf r m .signer .0
+abbrev pub signerOf : Book → ℕ → ℕ
+signerOf r m = getD (r .signers) m 0
 
-abbrev pub blockOf : Register → ℕ → ℕ
-blockOf r m = sentOf r m .block .0
+abbrev pub aboutOf : Book → ℕ → ℕ
+aboutOf r m = getD (r .about) m 0

@@ -8,34 +8,34 @@ use Rattle.words.specs.Sums.{tally}
 use Rattle.words.specs.Digits.{digit}
 use Rattle.quorum.specs.Enough.{enough}
 use Rattle.tables.specs.Messages.{absent, transit, inbox, view, saysIn}
-use Rattle.register.specs.declared.table.Register.{Register}
+use Rattle.register.specs.declared.book.Book.{Book}
 use Rattle.register.specs.Tables.{trusted}
 
 -- the stage of message m for office q. An untrusted office keeps nothing, and what was not sent is nowhere.
-unfoldable pub stage : Register → ℕ → ℕ → ℕ
+unfoldable pub stage : Book → ℕ → ℕ → ℕ
 stage r q m = choose (both (trusted r q) (ltb m (r .count))) (digit 4 (getD (r .places) m 0) q) absent
 
-unfoldable pub inTransit : Register → ℕ → ℕ → Bool
+abbrev pub inTransit : Book → ℕ → ℕ → Bool
 inTransit r q m = eqb (stage r q m) transit
 
-unfoldable pub inInbox : Register → ℕ → ℕ → Bool
+abbrev pub inInbox : Book → ℕ → ℕ → Bool
 inInbox r q m = eqb (stage r q m) inbox
 
-unfoldable pub inView : Register → ℕ → ℕ → Bool
+abbrev pub inView : Book → ℕ → ℕ → Bool
 inView r q m = eqb (stage r q m) view
 
 -- message m has that signer and that block
-unfoldable pub says : Register → ℕ → ℕ → ℕ → Bool
-says r signer b m = saysIn (r .signers) (r .subjects) signer b m
+abbrev pub says : Book → ℕ → ℕ → ℕ → Bool
+says r signer b m = saysIn (r .signers) (r .about) signer b m
 
 -- a signature on block b is in office q's view: a message there has that signer and that block
-unfoldable pub signed : Register → (q : ℕ) → (signer : ℕ) → (b : ℕ) → Bool
+unfoldable pub signed : Book → (q : ℕ) → (signer : ℕ) → (b : ℕ) → Bool
 signed r q signer b = any (r .count) (λ m. both (inView r q m) (says r signer b m))
 
 -- how many different offices' signatures on block b are in office q's view
-unfoldable pub signers : Register → ℕ → ℕ → ℕ
+abbrev pub signers : Book → ℕ → ℕ → ℕ
 signers r q b = tally (r .n) (λ signer. signed r q signer b)
 
 -- block b is notarised in office q's view; genesis always is
-unfoldable pub notarised : Register → ℕ → ℕ → Bool
+unfoldable pub notarised : Book → ℕ → ℕ → Bool
 notarised r q b = either (eqb b 0) (enough (signers r q b) (r .n))

@@ -1,13 +1,26 @@
-// What a step changes, as a small value: the answer, the single numbers after it, and one entry for each table. Where a step leaves a
-// table alone the entry is one that the table has already, so that a change is written to the register without a branch.
+// What a step changes, as a small value: the answer, and one entry for each table with the numbers that stand beside the table. Where a step leaves a
+// table alone the entry is one that the table has already, so that a change is written to the book without a branch.
 ghost use mathlib.Core.Path.{_≡_};
-ghost use Prim.Native.Nat.{_≤_, _<_};
-ghost use Rattle.register.specs.Changes.{refusing, moving, ending, naming, sending};
+ghost use Prim.Native.Nat.{_<_};
+ghost use Rattle.register.specs.Changes.{
+  refusing,
+  accepting,
+  timing,
+  acting,
+  naming,
+  sending,
+  moving,
+  holding,
+};
 use crate::sorts::Block;
 use crate::sorts::Epoch;
+use crate::sorts::Message;
+use crate::sorts::Office;
+use crate::table::Header;
+use crate::table::OfficeState;
 
-// The single numbers of a register.
-pub struct Head {
+// The single numbers of a book.
+pub struct Scalars {
     pub n: u8,
     pub trust: u32,
     pub length: u16,
@@ -17,20 +30,26 @@ pub struct Head {
     pub acted: u32,
 }
 
-// An entry of the table of blocks.
-pub struct BlockEntry {
-    pub at: usize,
-    pub parent: u8,
-    pub epoch: u16,
-    pub payload: u16,
+// The current epoch, and the offices that have acted in it.
+pub struct Clock {
+    pub epoch: Epoch,
+    pub acted: u32,
 }
 
-// An entry of the table of messages, with the word of its places.
+// The last block, and an entry of the table of blocks.
+pub struct BlockEntry {
+    pub last: Block,
+    pub at: usize,
+    pub header: Header,
+}
+
+// How many messages there are, and an entry of the table of messages, with the word of its places.
 pub struct MessageEntry {
+    pub count: u16,
     pub at: usize,
     pub vote: bool,
-    pub signer: u8,
-    pub subject: u8,
+    pub signer: Office,
+    pub about: Block,
     pub place: u64,
 }
 
@@ -40,22 +59,27 @@ pub struct PlaceEntry {
     pub place: u64,
 }
 
-// An office's final block.
-pub struct FinalEntry {
+// What an office holds.
+pub struct OfficeEntry {
     pub at: usize,
-    pub block: u8,
+    pub state: OfficeState,
 }
 
-// The refusal, a single byte, stands last: before a wider field it would share a word with padding, and a copy of that word would wait for
-// the byte.
-pub struct Change {
+// 0 or the refusal, and the value.
+pub struct Answer {
     pub value: u16,
-    pub head: Head,
+    pub refusal: u8,
+}
+
+// The answer, with its single byte, stands last: before a wider field it would share a word with padding, and a copy of that word would wait for the
+// byte.
+pub struct Change {
+    pub clock: Clock,
     pub block: BlockEntry,
     pub message: MessageEntry,
     pub place: PlaceEntry,
-    pub ending: FinalEntry,
-    pub refusal: u8,
+    pub office: OfficeEntry,
+    pub answer: Answer,
 }
 
 impl Change {
@@ -63,71 +87,101 @@ impl Change {
     pub(crate) fn refused(mut self, refusal: u8) -> Change
         ensures { λ r. ⌜ r ≡ refusing self refusal ⌝ }
     {
-        self.refusal = refusal;
+        let answer = Answer { value: 0, refusal };
+        self.answer = answer;
         self
     }
 
-    // The word of message m's places becomes that word.
-    pub(crate) fn moved(mut self, m: usize, word: u64) -> Change
-        ensures { λ r. ⌜ r ≡ moving self m word ⌝ }
+    // An accepted step, with its value.
+    pub(crate) fn accepted(mut self, value: u16) -> Change
+        ensures { λ r. ⌜ r ≡ accepting self value ⌝ }
     {
-        let place = PlaceEntry { at: m, place: word };
-        self.place = place;
+        let answer = Answer { value, refusal: 0 };
+        self.answer = answer;
         self
     }
 
-    // Office q's final block becomes b.
-    pub(crate) fn ended(mut self, q: usize, b: u8) -> Change
-        ensures { λ r. ⌜ r ≡ ending self q b ⌝ }
+    // Another epoch, or other marks.
+    pub(crate) fn timed(mut self, clock: Clock) -> Change
+        ensures { λ r. ⌜ r ≡ timing self clock ⌝ }
     {
-        let entry = FinalEntry { at: q, block: b };
-        self.ending = entry;
+        self.clock = clock;
         self
     }
 
-    // Block b is named: it is made, of that parent, epoch and payload, where it is the next.
-    pub(crate) fn named(mut self, b: u16, p: u8, e: u16, w: u16) -> Change
-        requires { ⌜ b ≤ 255 ⌝ }
-        ensures { λ r. ⌜ r ≡ naming self b p e w ⌝ }
+    // The office has acted.
+    pub(crate) fn acted(self, office: Office) -> Change
+        ensures { λ r. ⌜ r ≡ acting self (office .0) ⌝ }
     {
-        let mut head = self.head;
-        if b <= head.last.0 as u16 {
+        let mut clock = self.clock;
+        clock.acted = words::with_member(clock.acted, office.0);
+        self.timed(clock)
+    }
+
+    // Block b is named: it is made, of that header, where it is the next.
+    pub(crate) fn named(mut self, b: Block, header: Header) -> Change
+        ensures { λ r. ⌜ r ≡ naming self (b .0) header ⌝ }
+    {
+        if b.0 <= self.block.last.0 {
             return self;
         }
-        let last = Block(b as u8);
-        head.last = last;
         let block = BlockEntry {
-            at: b as usize,
-            parent: p,
-            epoch: e,
-            payload: w,
+            last: b,
+            at: b.0 as usize,
+            header,
         };
-        self.head = head;
         self.block = block;
         self
     }
 
-    // A message is sent; it gets the next number.
-    pub(crate) fn sent(mut self, vote: bool, signer: u8, subject: u8, word: u64) -> Change
-        requires { ⌜ self .head .count < 1024 ⌝ }
-        ensures { λ r. ⌜ r ≡ sending self vote signer subject word ⌝ }
+    // The message of that number is sent; the word says where it stands.
+    pub(crate) fn sent(
+        mut self,
+        message: Message,
+        vote: bool,
+        signer: Office,
+        about: Block,
+        word: u64,
+    ) -> Change
+        requires { ⌜ message .0 < 1024 ⌝ }
+        ensures { λ r. ⌜ r ≡ sending self (message .0) vote signer about word ⌝ }
     {
-        let mut head = self.head;
-        let count = head.count;
-        let at = count as usize;
-        let message = MessageEntry {
+        let at = message.0 as usize;
+        let entry = MessageEntry {
+            count: message.0 + 1,
             at,
             vote,
             signer,
-            subject,
+            about,
             place: word,
         };
         let place = PlaceEntry { at, place: word };
-        head.count = count + 1;
-        self.value = count;
-        self.head = head;
-        self.message = message;
+        self.message = entry;
         self.place = place;
+        self
+    }
+
+    // The word of a message's places becomes that word.
+    pub(crate) fn moved(mut self, message: Message, word: u64) -> Change
+        ensures { λ r. ⌜ r ≡ moving self (message .0) word ⌝ }
+    {
+        let place = PlaceEntry {
+            at: message.0 as usize,
+            place: word,
+        };
+        self.place = place;
+        self
+    }
+
+    // The acting office holds that.
+    pub(crate) fn held(mut self, state: OfficeState) -> Change
+        ensures { λ r. ⌜ r ≡ holding self state ⌝ }
+    {
+        let entry = OfficeEntry {
+            at: self.office.at,
+            state,
+        };
+        self.office = entry;
         self
     }
 }

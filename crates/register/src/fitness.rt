@@ -1,30 +1,46 @@
 // Whether a register is fit: every number in it is in its range.
 ghost use mathlib.Core.Path.{_≡_};
 ghost use mathlib.Core.Bool.{not};
-ghost use mathlib.Core.List.{[], _∷_};
 ghost use Prim.Native.Nat.{_+_, _≤_};
-ghost use lib.Dec.{ltb, leb};
+ghost use mathlib.Core.List.{[]};
+ghost use lib.Dec.{ltb};
 ghost use lib.ListN.{getD};
-ghost use Rattle.words.specs.Tests.{either, conj, all, between};
+ghost use Rattle.words.specs.Lent.{lent};
+ghost use Rattle.words.specs.Tests.{either, all};
 ghost use Rattle.tables.specs.Blocks.{trustedIn};
-ghost use Rattle.register.specs.Fitness.{blockFits, messageFits, fit};
-use crate::sorts::Epoch;
+ghost use Rattle.register.specs.Books.{bookOf};
+ghost use Rattle.register.specs.Tables.{stateIn};
+ghost use Rattle.register.specs.Fitness.{countsFit, blockFits, messageFits, stateFits, fit};
+ghost use Rattle.register.specs.Lent.{wholeBook, blocks, messages};
+use crate::change::Scalars;
+use crate::columns::About;
+use crate::columns::Epochs;
+use crate::columns::Leaders;
+use crate::columns::Parents;
+use crate::columns::Signers;
+use crate::limits::MOST_BLOCKS;
+use crate::limits::MOST_MESSAGES;
+use crate::limits::WIDEST_EPOCH;
+use crate::table::OfficeState;
 use crate::table::Register;
 
-// The single numbers are in their ranges. The last block's number always is: a caller that has it from a struct learns so here.
-pub(crate) fn counts_fit(n: u8, length: u16, epoch: Epoch, last: u8, count: u16) -> bool
-    ensures { λ r. ⌜ (r ≡ conj (between 1 32 n ∷ between 1 256 length ∷ between 1 length (epoch .0) ∷ leb count 1024 ∷ [])) × (last ≤ 255) ⌝ }
+// The single numbers are in their ranges.
+fn counts_fit(scalars: Scalars) -> bool
+    ensures { λ r. ⌜ r ≡ countsFit
+        (scalars .n) (scalars .length) (scalars .epoch .0) (scalars .last .0) (scalars .count) ⌝ }
 {
-    words::between(1, 32, n as usize)
-        & words::between(1, 256, length as usize)
-        & words::between(1, length as usize, epoch.0 as usize)
-        & (count <= 1024)
+    let length = scalars.length as usize;
+    words::between(1, 32, scalars.n as usize)
+        & words::between(1, 256, length)
+        & words::between(1, length, scalars.epoch.0 as usize)
+        & (scalars.last.0 as u16 <= MOST_BLOCKS)
+        & (scalars.count <= MOST_MESSAGES)
 }
 
 // Every leader of the schedule is an office.
-fn leaders_fit(leaders: &[u8; 256], length: usize, n: u8) -> bool
+fn leaders_fit(leaders: &Leaders, length: usize, n: u8) -> bool
     requires { ⌜ length ≤ 256 ⌝ }
-    ensures { λ r. ⌜ r ≡ all length (λ i. ltb (getD (now (leaders .entry)) i 0) n) ⌝ }
+    ensures { λ r. ⌜ r ≡ all length (λ i. ltb (getD (lent leaders) i 0) n) ⌝ }
 {
     let mut fits = true;
     let mut i = 0;
@@ -39,12 +55,13 @@ fn leaders_fit(leaders: &[u8; 256], length: usize, n: u8) -> bool
 fn block_fits(b: u8, parent: u8, epoch: u16) -> bool
     ensures { λ r. ⌜ r ≡ blockFits b parent epoch ⌝ }
 {
-    (parent < b) & (epoch <= 511)
+    (parent < b) & (epoch <= WIDEST_EPOCH)
 }
 
 // Every block from 1 to the last fits.
-fn blocks_fit<'a>(parents: &'a [u8; 256], epochs: &'a [u16; 256], last: u8) -> bool
-    ensures { λ r. ⌜ r ≡ all last (λ k. blockFits (k + 1) (getD (now (parents .entry)) (k + 1) 0) (getD (now (epochs .entry)) (k + 1) 0)) ⌝ }
+fn blocks_fit<'a>(parents: &'a Parents, epochs: &'a Epochs, last: u8) -> bool
+    ensures { λ r. ⌜ r ≡ all last
+        (λ k. blockFits (k + 1) (getD (lent parents) (k + 1) 0) (getD (lent epochs) (k + 1) 0)) ⌝ }
 {
     let mut fits = true;
     let mut k = 0;
@@ -58,61 +75,98 @@ fn blocks_fit<'a>(parents: &'a [u8; 256], epochs: &'a [u16; 256], last: u8) -> b
 }
 
 // A message has an office for its signer and a block that has been made, genesis excepted.
-fn message_fits(n: u8, last: u8, signer: u8, subject: u8) -> bool
-    ensures { λ r. ⌜ r ≡ messageFits n last signer subject ⌝ }
+fn message_fits(n: u8, last: u8, signer: u8, about: u8) -> bool
+    ensures { λ r. ⌜ r ≡ messageFits n last signer about ⌝ }
 {
-    (signer < n) & ((1 <= subject) & (subject <= last))
+    (signer < n) & ((1 <= about) & (about <= last))
 }
 
 // Every message sent fits.
-fn messages_fit<'a>(
-    signers: &'a [u8; 1024],
-    subjects: &'a [u8; 1024],
-    count: usize,
-    n: u8,
-    last: u8,
-) -> bool
+fn messages_fit<'a>(signers: &'a Signers, about: &'a About, count: usize, n: u8, last: u8) -> bool
     requires { ⌜ count ≤ 1024 ⌝ }
-    ensures { λ r. ⌜ r ≡ all count (λ m. messageFits n last (getD (now (signers .entry)) m 0) (getD (now (subjects .entry)) m 0)) ⌝ }
+    ensures { λ r. ⌜ r ≡ all count (λ m. messageFits n last (getD (lent signers) m 0) (getD (lent about) m 0)) ⌝ }
 {
     let mut fits = true;
     let mut m = 0;
     while m < count {
-        fits = fits & message_fits(n, last, signers[m], subjects[m]);
+        fits = fits & message_fits(n, last, signers[m], about[m]);
         m += 1;
     }
     fits
 }
 
-// Every trusted office's final block is genesis or has been made.
-fn finals_fit(finals: &[u8; 32], n: u8, trust: u32, last: u8) -> bool
+// What an office holds fits: its final block is genesis or has been made.
+fn state_fits(last: u8, state: OfficeState) -> bool
+    ensures { λ r. ⌜ r ≡ stateFits last state ⌝ }
+{
+    state.finalised.0 <= last
+}
+
+// So does what every trusted office holds.
+fn offices_fit(offices: [OfficeState; 32], n: u8, trust: u32, last: u8) -> bool
     requires { ⌜ n ≤ 32 ⌝ }
-    ensures { λ r. ⌜ r ≡ all n (λ q. either (not (trustedIn n trust q)) (leb (getD (now (finals .entry)) q 0) last)) ⌝ }
+    ensures { λ r. ⌜ r ≡ all n (λ q. either (not (trustedIn n trust q)) (stateFits last (stateIn offices q))) ⌝ }
 {
     let mut fits = true;
     let mut q = 0;
     while q < n {
-        fits = fits & (!words::has(trust, q) | (finals[q as usize] <= last));
+        let state = offices[q as usize];
+        fits = fits & (!words::has(trust, q) | state_fits(last, state));
         q += 1;
     }
     fits
 }
 
+// The book of those single numbers and tables is fit; payloads, places and kinds of messages are no matter. The counts come first, so that no table is
+// read past its end.
+pub(crate) fn fits<'a>(
+    scalars: Scalars,
+    leaders: &'a Leaders,
+    parents: &'a Parents,
+    epochs: &'a Epochs,
+    signers: &'a Signers,
+    about: &'a About,
+    offices: [OfficeState; 32],
+) -> bool
+    ensures { λ r. ⌜ r ≡ fit
+        (wholeBook scalars (lent leaders) (blocks (lent parents) (lent epochs) [])
+        (messages [] (lent signers) (lent about) []) offices) ⌝ }
+{
+    let n = scalars.n;
+    let last = scalars.last.0;
+    if !counts_fit(scalars) {
+        return false;
+    }
+    leaders_fit(leaders, scalars.length as usize, n)
+        & blocks_fit(parents, epochs, last)
+        & messages_fit(signers, about, scalars.count as usize, n, last)
+        & offices_fit(offices, n, scalars.trust, last)
+}
+
 impl Register {
-    // Every number of the register is in its range. The counts come first, so that no table is read past its end.
+    // Every number of the register is in its range.
     pub fn is_fit(self) -> bool
-        ensures { λ r. ⌜ r ≡ fit self ⌝ }
+        ensures { λ r. ⌜ r ≡ fit (bookOf self) ⌝ }
     {
-        let n = self.n;
-        let length = self.length;
-        let count = self.count;
-        let last = self.last.0;
-        if !counts_fit(n, length, self.epoch, last, count) {
-            return false;
-        }
-        leaders_fit(&self.leaders, length as usize, n)
-            & blocks_fit(&self.parents, &self.epochs, last)
-            & messages_fit(&self.signers, &self.subjects, count as usize, n, last)
-            & finals_fit(&self.finals, n, self.trust, last)
+        let book = self.book();
+        let scalars = Scalars {
+            n: book.n,
+            trust: book.trust,
+            length: book.length,
+            epoch: book.epoch,
+            last: book.last,
+            count: book.count,
+            acted: book.acted,
+        };
+        let offices = book.offices;
+        fits(
+            scalars,
+            &book.leaders,
+            &book.parents,
+            &book.epochs,
+            &book.signers,
+            &book.about,
+            offices,
+        )
     }
 }

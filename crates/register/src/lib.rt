@@ -1,11 +1,14 @@
 // The shared register of plots: the offices' numbers, the register, its opening and the steps that change it.
+mod actor;
+mod book;
 mod change;
+mod columns;
 mod fitness;
+mod limits;
 pub mod opening;
 mod read;
 pub mod refusal;
 pub mod run;
-mod settled;
 pub mod sorts;
 pub mod step;
 mod steps;
@@ -17,9 +20,9 @@ pub use sorts::Kind;
 pub use sorts::Message;
 pub use sorts::Office;
 pub use step::Step;
-pub use table::Made;
+pub use table::Header;
+pub use table::OfficeState;
 pub use table::Opened;
 pub use table::Ran;
 pub use table::Register;
-pub use table::Sent;
 pub use table::Stepped;

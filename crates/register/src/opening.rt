@@ -2,16 +2,20 @@
 ghost use mathlib.Core.Path.{_≡_};
 ghost use Prim.Native.Nat.{_≤_};
 ghost use lib.ListN.{length};
-ghost use Rattle.register.specs.Opening.{leaderTable, blank, closed, fresh, opening};
+ghost use Rattle.words.specs.Lent.{lent};
+ghost use Rattle.register.specs.Opening.{leaderTable, blank, closed, freshBook, opening};
+use crate::book::Book;
+use crate::columns::Leaders;
 use crate::sorts::Block;
 use crate::sorts::Epoch;
+use crate::table::OfficeState;
 use crate::table::Opened;
 use crate::table::Register;
 
 // The table of leaders: the schedule, and office 0 past its end.
-fn leader_table(schedule: &[u8]) -> [u8; 256]
+fn leader_table(schedule: &[u8]) -> Leaders
     requires { ⌜ length (now schedule) ≤ 256 ⌝ }
-    ensures { λ r. ⌜ r ≡ leaderTable (now (schedule .entry)) ⌝ }
+    ensures { λ r. ⌜ r ≡ leaderTable (lent schedule) ⌝ }
 {
     let mut leaders = [0u8; 256];
     let mut i = 0;
@@ -22,11 +26,14 @@ fn leader_table(schedule: &[u8]) -> [u8; 256]
     leaders
 }
 
-// A register of that epoch with no blocks but genesis and no messages, in which all are ready.
-fn blank(n: u8, trust: u32, length: u16, epoch: u16, leaders: [u8; 256]) -> Register
+// A book of that epoch with no blocks but genesis and no messages, in which all are ready.
+fn blank(n: u8, trust: u32, length: u16, epoch: u16, leaders: Leaders) -> Book
     ensures { λ r. ⌜ r ≡ blank n trust length epoch leaders ⌝ }
 {
-    Register {
+    let state = OfficeState {
+        finalised: Block(0),
+    };
+    Book {
         n,
         trust,
         length,
@@ -39,10 +46,10 @@ fn blank(n: u8, trust: u32, length: u16, epoch: u16, leaders: [u8; 256]) -> Regi
         count: 0,
         votes: [false; 1024],
         signers: [0; 1024],
-        subjects: [0; 1024],
+        about: [0; 1024],
         places: [0; 1024],
         acted: 0,
-        finals: [0; 32],
+        offices: [state; 32],
     }
 }
 
@@ -50,13 +57,13 @@ fn blank(n: u8, trust: u32, length: u16, epoch: u16, leaders: [u8; 256]) -> Regi
 pub fn closed() -> Register
     ensures { λ r. ⌜ r ≡ closed ⌝ }
 {
-    blank(0, 0, 0, 0, [0; 256])
+    blank(0, 0, 0, 0, [0; 256]).register()
 }
 
-// The register of an opening that is not refused; trust bits from n up are stored as 0.
-fn fresh(n: u8, trust: u32, schedule: &[u8]) -> Register
+// The book of an opening that is not refused; trust bits from n up are stored as 0.
+fn fresh_book(n: u8, trust: u32, schedule: &[u8]) -> Book
     requires { ⌜ length (now schedule) ≤ 256 ⌝ }
-    ensures { λ r. ⌜ r ≡ fresh n trust (now (schedule .entry)) ⌝ }
+    ensures { λ r. ⌜ r ≡ freshBook n trust (lent schedule) ⌝ }
 {
     blank(
         n,
@@ -70,12 +77,12 @@ fn fresh(n: u8, trust: u32, schedule: &[u8]) -> Register
 impl Register {
     // Opens a register for n offices, with a leader for each epoch of the schedule.
     pub fn open(n: u8, trust: u32, schedule: &[u8]) -> Opened
-        ensures { λ r. ⌜ r ≡ opening n trust (now (schedule .entry)) ⌝ }
+        ensures { λ r. ⌜ r ≡ opening n trust (lent schedule) ⌝ }
     {
         let refusal = quorum::opening_refusal(n, trust, schedule);
         if refusal == 0 {
             return Opened {
-                register: fresh(n, trust, schedule),
+                register: fresh_book(n, trust, schedule).register(),
                 refusal,
             };
         }

@@ -1,11 +1,17 @@
 // Running steps: a batch, one, or one of a kind.
 ghost use mathlib.Core.Path.{_≡_};
 ghost use Prim.Native.Nat.{min};
-ghost use Rattle.register.specs.Steps.{stepRule, quickRule};
-ghost use Rattle.register.specs.Runs.{ranFirst};
-use crate::change::Head;
-use crate::refusal;
-use crate::settled::settled_after;
+ghost use lib.ListN.{take};
+ghost use Rattle.register.specs.Limits.{batch};
+ghost use Rattle.register.specs.Steps.{stepRule};
+ghost use Rattle.register.specs.Runs.{ran};
+use crate::actor::Actor;
+use crate::actor::actor_of;
+use crate::actor::place_of;
+use crate::actor::settled_after;
+use crate::actor::settled_base;
+use crate::change::Scalars;
+use crate::fitness::fits;
 use crate::sorts::Block;
 use crate::sorts::Epoch;
 use crate::sorts::Kind;
@@ -25,71 +31,100 @@ pub const BATCH: usize = 256;
 
 // The number of steps, or that of a batch where it is more.
 fn in_batch(count: usize) -> usize
-    ensures { λ r. ⌜ r ≡ min count 256 ⌝ }
+    ensures { λ r. ⌜ r ≡ min count batch ⌝ }
 {
     if count < BATCH { count } else { BATCH }
 }
 
 impl Register {
-    // Runs the first steps of a batch without the test of the register's tables, so that tables out of range get no 5. The register is
-    // changed in place, so that a step costs no copy of it.
-    pub fn run(mut self, steps: Batch, count: usize) -> Ran
-        ensures { λ r. ⌜ r ≡ ranFirst self steps (min count 256) ⌝ }
+    // Runs the first steps of a batch. The register's fitness is tested once, since steps keep it, and its book is changed in place, so that a step
+    // costs no copy of it.
+    pub fn run(self, steps: Batch, count: usize) -> Ran
+        ensures { λ r. ⌜ r ≡ ran self (take (min count batch) steps) ⌝ }
     {
         let limit = in_batch(count);
         let mut refusals = [0u8; 256];
         let mut values = [0u16; 256];
+        let mut book = self.book();
+        let start = Scalars {
+            n: book.n,
+            trust: book.trust,
+            length: book.length,
+            epoch: book.epoch,
+            last: book.last,
+            count: book.count,
+            acted: book.acted,
+        };
+        let offices = book.offices;
+        let fit = fits(
+            start,
+            &book.leaders,
+            &book.parents,
+            &book.epochs,
+            &book.signers,
+            &book.about,
+            offices,
+        );
         let mut settled = 0;
         let mut i = 0;
         while i < limit {
             let step = steps[i];
-            let head = Head {
-                n: self.n,
-                trust: self.trust,
-                length: self.length,
-                epoch: self.epoch,
-                last: self.last,
-                count: self.count,
-                acted: self.acted,
+            let office = actor_of(step);
+            let at = place_of(office);
+            let state = book.offices[at];
+            let actor = Actor {
+                at,
+                state,
+                base: settled_base(state, settled, office),
+            };
+            let scalars = Scalars {
+                n: book.n,
+                trust: book.trust,
+                length: book.length,
+                epoch: book.epoch,
+                last: book.last,
+                count: book.count,
+                acted: book.acted,
             };
             let c = judge(
-                head,
-                &self.leaders,
-                &self.parents,
-                &self.epochs,
-                &self.payloads,
-                &self.votes,
-                &self.signers,
-                &self.subjects,
-                &self.places,
-                &self.finals,
-                settled,
+                fit,
+                scalars,
+                &book.leaders,
+                &book.parents,
+                &book.epochs,
+                &book.payloads,
+                &book.votes,
+                &book.signers,
+                &book.about,
+                &book.places,
+                actor,
                 step,
             );
-            self.epoch.0 = c.head.epoch.0;
-            self.last.0 = c.head.last.0;
-            self.count = c.head.count;
-            self.acted = c.head.acted;
+            book.epoch.0 = c.clock.epoch.0;
+            book.acted = c.clock.acted;
+            book.last.0 = c.block.last.0;
             let b = c.block.at;
-            self.parents[b] = c.block.parent;
-            self.epochs[b] = c.block.epoch;
-            self.payloads[b] = c.block.payload;
+            book.parents[b] = c.block.header.parent.0;
+            book.epochs[b] = c.block.header.epoch.0;
+            book.payloads[b] = c.block.header.payload;
+            book.count = c.message.count;
             let m = c.message.at;
-            self.votes[m] = c.message.vote;
-            self.signers[m] = c.message.signer;
-            self.subjects[m] = c.message.subject;
-            self.places[m] = c.message.place;
+            book.votes[m] = c.message.vote;
+            book.signers[m] = c.message.signer.0;
+            book.about[m] = c.message.about.0;
+            book.places[m] = c.message.place;
             let p = c.place.at;
-            self.places[p] = c.place.place;
-            let q = c.ending.at;
-            self.finals[q] = c.ending.block;
-            settled = settled_after(settled, step, c.refusal);
-            refusals[i] = c.refusal;
-            values[i] = c.value;
+            book.places[p] = c.place.place;
+            let q = c.office.at;
+            let held = c.office.state;
+            book.offices[q] = held;
+            settled = settled_after(settled, office, c.answer.refusal);
+            refusals[i] = c.answer.refusal;
+            values[i] = c.answer.value;
             i += 1;
         }
         Ran {
-            register: self,
+            register: book.register(),
             refusals,
             values,
         }
@@ -97,9 +132,9 @@ impl Register {
 }
 
 impl Register {
-    // Runs one step without the test of the register's tables, so that tables out of range get no 5.
-    pub fn quick_step(self, step: Step) -> Stepped
-        ensures { λ r. ⌜ r ≡ quickRule self step ⌝ }
+    // Runs one step.
+    pub fn step(self, step: Step) -> Stepped
+        ensures { λ r. ⌜ r ≡ stepRule self step ⌝ }
     {
         let ran = self.run([step; 256], 1);
         let register = ran.register;
@@ -109,21 +144,6 @@ impl Register {
             value: ran.values[0],
         }
     }
-
-    // Runs one step.
-    pub fn step(self, step: Step) -> Stepped
-        ensures { λ r. ⌜ r ≡ stepRule self step ⌝ }
-    {
-        if !self.is_fit() {
-            return Stepped {
-                register: self,
-                refusal: refusal::UNFIT_REGISTER,
-                value: 0,
-            };
-        }
-        self.quick_step(step)
-    }
-
     // The leader names a block of the current epoch on that parent and sends its proposal.
     pub fn propose(self, office: Office, parent: Block, payload: u16) -> Stepped
         ensures { λ r. ⌜ r ≡ stepRule self (Step.Propose office parent payload) ⌝ }

@@ -1,24 +1,20 @@
 use crate::sorts::Block;
 use crate::sorts::Epoch;
-use crate::sorts::Kind;
 use crate::sorts::Office;
 
 // What a block is made of.
-pub struct Made {
+pub struct Header {
     pub parent: Block,
     pub epoch: Epoch,
     pub payload: u16,
 }
 
-// What a message says.
-pub struct Sent {
-    pub kind: Kind,
-    pub signer: Office,
-    pub block: Block,
+// What one office holds beside its view and its mark: its final block.
+pub struct OfficeState {
+    pub finalised: Block,
 }
 
-// The register that the offices share. Any values make a register that each call takes. The tables are columns of plain numbers, so that
-// a call can lend a whole column without copying it; each call takes the four sorts, and gives a step's value, which is of several, as a number.
+// The register that the offices share. Any values make a register that each call takes.
 pub struct Register {
     // how many offices there are
     pub n: u8,
@@ -27,27 +23,27 @@ pub struct Register {
     // how many epochs the schedule has
     pub length: u16,
     // the leader of epoch e stands at e - 1
-    pub leaders: [u8; 256],
+    pub leaders: [Office; 256],
     // the current epoch
     pub epoch: Epoch,
     // the last block made, 0 where there is genesis alone
     pub last: Block,
     // each block's parent, epoch and payload, at the block's number; entry 0 counts for nothing
-    pub parents: [u8; 256],
-    pub epochs: [u16; 256],
+    pub parents: [Block; 256],
+    pub epochs: [Epoch; 256],
     pub payloads: [u16; 256],
     // how many messages have been sent
     pub count: u16,
     // for each message, at its number: whether it is a vote, its signer, and the block that it is about
     pub votes: [bool; 1024],
-    pub signers: [u8; 1024],
-    pub subjects: [u8; 1024],
+    pub signers: [Office; 1024],
+    pub about: [Block; 1024],
     // for each message a word in base 4, whose digit q is the message's stage for office q
     pub places: [u64; 1024],
     // the offices that have acted in this epoch: bit q for office q
     pub acted: u32,
-    // each office's final block
-    pub finals: [u8; 32],
+    // what each office holds, at its number
+    pub offices: [OfficeState; 32],
 }
 
 // What opening gives: the fresh register and 0, or a register without offices and the refusal.

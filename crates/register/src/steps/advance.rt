@@ -1,27 +1,26 @@
 // Advance: the next epoch, every trusted office ready.
 ghost use mathlib.Core.Path.{_≡_};
 ghost use mathlib.Core.List.{[]};
-ghost use Prim.Native.Nat.{_+_, _≤_};
-ghost use Rattle.words.specs.Refusals.{first};
-ghost use Rattle.register.specs.Steps.{advance};
-ghost use Rattle.register.specs.Changes.{whole, answer, heading, nextHead};
+ghost use Rattle.register.specs.Lent.{Counted, lentBook, noBlocks, noMessages};
+ghost use Rattle.register.specs.Changes.{advanceChange};
 use crate::change::Change;
+use crate::change::Clock;
+use crate::change::Scalars;
 use crate::refusal;
 use crate::sorts::Epoch;
 
-pub(crate) fn advance(mut still: Change) -> Change
-    requires { ⌜ still .head .length ≤ 256 ⌝ }
-    ensures { λ r. ⌜ r ≡ answer still (first (advance (whole (still .head) [] [] [] [] [] [] [] [] []) .tests)) (heading still (still .head .epoch .0 + 1) (nextHead (still .head))) ⌝ }
+pub(crate) fn advance(unchanged: Change, scalars: Scalars) -> Change
+    requires { ⌜ Counted scalars ⌝ }
+    ensures { λ r. ⌜ r ≡ advanceChange unchanged (lentBook scalars [] noBlocks noMessages) ⌝ }
 {
-    let mut head = still.head;
-    let epoch = head.epoch.0;
-    if head.length <= epoch {
-        return still.refused(refusal::SPENT);
+    let epoch = scalars.epoch.0;
+    if scalars.length <= epoch {
+        return unchanged.refused(refusal::SPENT);
     }
     let next = Epoch(epoch + 1);
-    head.epoch = next;
-    head.acted = 0;
-    still.head = head;
-    still.value = epoch + 1;
-    still
+    let clock = Clock {
+        epoch: next,
+        acted: 0,
+    };
+    unchanged.timed(clock).accepted(epoch + 1)
 }

@@ -1,21 +1,25 @@
 // Bad send: an untrusted office sends what it likes, but for the signatures of trusted offices that they never sent.
 ghost use mathlib.Core.Path.{_≡_};
 ghost use mathlib.Core.List.{[]};
-ghost use Prim.Native.Nat.{_≤_};
-ghost use Rattle.words.specs.Digits.{fill};
+ghost use Rattle.words.specs.Lent.{lent};
 ghost use Rattle.words.specs.Refusals.{first};
 ghost use Rattle.register.specs.Tables.{isVote};
-ghost use Rattle.register.specs.Effects.{sentStage};
 ghost use Rattle.register.specs.Refusals.{forged};
 ghost use Rattle.register.specs.Steps.{badSend};
-ghost use Rattle.register.specs.Changes.{whole, answer, sending};
+ghost use Rattle.register.specs.Lent.{Counted, lentBook, noBlocks, messages};
+ghost use Rattle.register.specs.Changes.{badSendChange};
 use crate::change::Change;
-use crate::change::Head;
+use crate::change::Scalars;
+use crate::columns::About;
+use crate::columns::Signers;
+use crate::columns::Votes;
+use crate::limits::MOST_MESSAGES;
 use crate::refusal;
 use crate::sorts::Block;
 use crate::sorts::Kind;
+use crate::sorts::Message;
 use crate::sorts::Office;
-use crate::steps::sent::sent_place;
+use crate::steps::places::sent_place;
 
 // The kind is a vote and no proposal.
 fn is_vote(kind: Kind) -> bool
@@ -29,58 +33,55 @@ fn is_vote(kind: Kind) -> bool
 
 // The signer is trusted and never sent such a message. The history is searched only where the signer is trusted.
 fn is_forged<'a>(
-    head: Head,
-    votes: &'a [bool; 1024],
-    signers: &'a [u8; 1024],
-    subjects: &'a [u8; 1024],
+    scalars: Scalars,
+    votes: &'a Votes,
+    signers: &'a Signers,
+    about: &'a About,
     kind: Kind,
-    signer: u8,
-    b: u8,
+    signer: Office,
+    b: Block,
 ) -> bool
-    requires { ⌜ head .count ≤ 1024 ⌝ }
-    ensures { λ r. ⌜ r ≡ forged (whole head [] [] [] [] (now (votes .entry)) (now (signers .entry)) (now (subjects .entry)) [] []) kind signer b ⌝ }
+    requires { ⌜ Counted scalars ⌝ }
+    ensures { λ r. ⌜ r ≡ forged
+        (lentBook scalars [] noBlocks (messages (lent votes) (lent signers) (lent about) []))
+        kind (signer .0) (b .0) ⌝ }
 {
-    if !tables::trusted_at(head.n, head.trust, signer) {
+    if !tables::trusted_at(scalars.n, scalars.trust, signer.0) {
         return false;
     }
-    !tables::in_history(
-        votes,
-        signers,
-        subjects,
-        head.count as usize,
-        is_vote(kind),
-        signer,
-        b,
-    )
+    let count = scalars.count as usize;
+    !tables::in_history(votes, signers, about, count, is_vote(kind), signer.0, b.0)
 }
 
 // The refusal of a bad send, 0 where there is none.
 fn bad_send_refusal<'a>(
-    head: Head,
-    votes: &'a [bool; 1024],
-    signers: &'a [u8; 1024],
-    subjects: &'a [u8; 1024],
+    scalars: Scalars,
+    votes: &'a Votes,
+    signers: &'a Signers,
+    about: &'a About,
     sender: Office,
     kind: Kind,
     signer: Office,
-    about: Block,
+    b: Block,
 ) -> u8
-    requires { ⌜ head .count ≤ 1024 ⌝ }
-    ensures { λ r. ⌜ r ≡ first (badSend (whole head [] [] [] [] (now (votes .entry)) (now (signers .entry)) (now (subjects .entry)) [] []) sender kind signer about .tests) ⌝ }
+    requires { ⌜ Counted scalars ⌝ }
+    ensures { λ r. ⌜ r ≡ first (badSend
+        (lentBook scalars [] noBlocks (messages (lent votes) (lent signers) (lent about) []))
+        sender kind signer b .tests) ⌝ }
 {
-    if (head.n <= sender.0) | (head.n <= signer.0) {
+    if (scalars.n <= sender.0) | (scalars.n <= signer.0) {
         return refusal::NO_OFFICE;
     }
-    if (about.0 == 0) | (head.last.0 < about.0) {
+    if (b.0 == 0) | (scalars.last.0 < b.0) {
         return refusal::NO_BLOCK;
     }
-    if tables::trusted_at(head.n, head.trust, sender.0) {
+    if tables::trusted_at(scalars.n, scalars.trust, sender.0) {
         return refusal::TRUSTED_SENDER;
     }
-    if is_forged(head, votes, signers, subjects, kind, signer.0, about.0) {
+    if is_forged(scalars, votes, signers, about, kind, signer, b) {
         return refusal::FORGED;
     }
-    if head.count >= 1024 {
+    if scalars.count >= MOST_MESSAGES {
         return refusal::MESSAGES_FULL;
     }
     0
@@ -88,22 +89,28 @@ fn bad_send_refusal<'a>(
 
 // The change that a bad send makes.
 pub(crate) fn bad_send<'a>(
-    still: Change,
-    votes: &'a [bool; 1024],
-    signers: &'a [u8; 1024],
-    subjects: &'a [u8; 1024],
+    unchanged: Change,
+    scalars: Scalars,
+    votes: &'a Votes,
+    signers: &'a Signers,
+    about: &'a About,
     sender: Office,
     kind: Kind,
     signer: Office,
-    about: Block,
+    b: Block,
 ) -> Change
-    requires { ⌜ (still .head .n ≤ 32) × (still .head .count ≤ 1024) ⌝ }
-    ensures { λ r. ⌜ r ≡ answer still (first (badSend (whole (still .head) [] [] [] [] (now (votes .entry)) (now (signers .entry)) (now (subjects .entry)) [] []) sender kind signer about .tests)) (sending still (isVote kind) (signer .0) (about .0) (fill 4 (still .head .n) (sentStage (whole (still .head) [] [] [] [] [] [] [] [] []) (sender .0)))) ⌝ }
+    requires { ⌜ Counted scalars ⌝ }
+    ensures { λ r. ⌜ r ≡ badSendChange unchanged
+        (lentBook scalars [] noBlocks (messages (lent votes) (lent signers) (lent about) []))
+        sender kind signer b ⌝ }
 {
-    let head = still.head;
-    let refusal = bad_send_refusal(head, votes, signers, subjects, sender, kind, signer, about);
+    let refusal = bad_send_refusal(scalars, votes, signers, about, sender, kind, signer, b);
     if refusal != 0 {
-        return still.refused(refusal);
+        return unchanged.refused(refusal);
     }
-    still.sent(is_vote(kind), signer.0, about.0, sent_place(head, sender.0))
+    let word = sent_place(scalars, sender);
+    let next = Message(scalars.count);
+    unchanged
+        .sent(next, is_vote(kind), signer, b, word)
+        .accepted(scalars.count)
 }

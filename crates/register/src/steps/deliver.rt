@@ -1,48 +1,55 @@
 // Deliver: a message moves from transit to the inbox.
 ghost use mathlib.Core.Path.{_≡_};
 ghost use mathlib.Core.List.{[]};
-ghost use Prim.Native.Nat.{_≤_};
+ghost use Rattle.words.specs.Lent.{lent};
 ghost use Rattle.words.specs.Refusals.{first};
 ghost use Rattle.register.specs.Steps.{deliver};
-ghost use Rattle.register.specs.Changes.{whole, answer, movedOn};
+ghost use Rattle.register.specs.Lent.{Counted, lentBook, noBlocks, messages};
+ghost use Rattle.register.specs.Changes.{deliverChange};
 use crate::change::Change;
-use crate::change::Head;
+use crate::change::Scalars;
+use crate::columns::Places;
 use crate::refusal;
 use crate::sorts::Message;
 use crate::sorts::Office;
-use crate::steps::place::move_on;
-use crate::steps::place::stage_of;
+use crate::steps::places::stage_of;
+use tables::INBOX;
 use tables::TRANSIT;
 
-fn deliver_refusal(head: Head, places: &[u64; 1024], message: Message, office: Office) -> u8
-    requires { ⌜ head .count ≤ 1024 ⌝ }
-    ensures { λ r. ⌜ r ≡ first (deliver (whole head [] [] [] [] [] [] [] (now (places .entry)) []) message office .tests) ⌝ }
+// The refusal of a delivery, 0 where there is none.
+fn deliver_refusal(scalars: Scalars, places: &Places, message: Message, office: Office) -> u8
+    requires { ⌜ Counted scalars ⌝ }
+    ensures { λ r. ⌜ r ≡ first
+        (deliver (lentBook scalars [] noBlocks (messages [] [] [] (lent places))) message office .tests) ⌝ }
 {
-    if head.n <= office.0 {
+    if scalars.n <= office.0 {
         return refusal::NO_OFFICE;
     }
-    if head.count <= message.0 {
+    if scalars.count <= message.0 {
         return refusal::NO_MESSAGE;
     }
-    if stage_of(head, places, office.0, message.0) != TRANSIT {
+    if stage_of(scalars, places, office, message) != TRANSIT {
         return refusal::NOT_SENT;
     }
     0
 }
 
+// The change that a delivery makes.
 pub(crate) fn deliver(
-    still: Change,
-    places: &[u64; 1024],
+    unchanged: Change,
+    scalars: Scalars,
+    places: &Places,
     message: Message,
     office: Office,
 ) -> Change
-    requires { ⌜ (still .head .n ≤ 32) × (still .head .count ≤ 1024) ⌝ }
-    ensures { λ r. ⌜ r ≡ answer still (first (deliver (whole (still .head) [] [] [] [] [] [] [] (now (places .entry)) []) message office .tests)) (movedOn still (now (places .entry)) (message .0) (office .0)) ⌝ }
+    requires { ⌜ Counted scalars ⌝ }
+    ensures { λ r. ⌜ r ≡ deliverChange unchanged
+        (lentBook scalars [] noBlocks (messages [] [] [] (lent places))) message office ⌝ }
 {
-    let head = still.head;
-    let refusal = deliver_refusal(head, places, message, office);
+    let refusal = deliver_refusal(scalars, places, message, office);
     if refusal != 0 {
-        return still.refused(refusal);
+        return unchanged.refused(refusal);
     }
-    move_on(still, places, office.0, message.0)
+    let word = words::with_stage(places[message.0 as usize], office.0, INBOX);
+    unchanged.moved(message, word).accepted(message.0)
 }

@@ -1,48 +1,52 @@
 // Draft: names a block, sends nothing.
 ghost use mathlib.Core.Path.{_≡_};
 ghost use mathlib.Core.List.{[]};
-ghost use Prim.Native.Nat.{_≤_};
-ghost use Rattle.words.specs.Refusals.{first};
-ghost use Rattle.tables.specs.Blocks.{namedIn};
-ghost use Rattle.register.specs.Steps.{draft};
-ghost use Rattle.register.specs.Changes.{whole, answer, drafted};
+ghost use Rattle.words.specs.Lent.{lent};
+ghost use Rattle.register.specs.Lent.{Counted, lentBook, blocks, noMessages};
+ghost use Rattle.register.specs.Changes.{draftChange};
 use crate::change::Change;
+use crate::change::Scalars;
+use crate::columns::Epochs;
+use crate::columns::Parents;
+use crate::columns::Payloads;
+use crate::limits::MOST_BLOCKS;
+use crate::limits::WIDEST_EPOCH;
 use crate::refusal;
 use crate::sorts::Block;
 use crate::sorts::Epoch;
+use crate::table::Header;
 
 // The change that a draft makes.
 pub(crate) fn draft<'a>(
-    still: Change,
-    parents: &'a [u8; 256],
-    epochs: &'a [u16; 256],
-    payloads: &'a [u16; 256],
+    unchanged: Change,
+    scalars: Scalars,
+    parents: &'a Parents,
+    epochs: &'a Epochs,
+    payloads: &'a Payloads,
     parent: Block,
     epoch: Epoch,
     payload: u16,
 ) -> Change
-    requires { ⌜ still .head .last .0 ≤ 255 ⌝ }
-    ensures { λ r. ⌜ r ≡ answer still (first (draft (whole (still .head) [] (now (parents .entry)) (now (epochs .entry)) (now (payloads .entry)) [] [] [] [] []) parent epoch payload .tests)) (drafted still (namedIn (now (parents .entry)) (now (epochs .entry)) (now (payloads .entry)) (still .head .last .0) (parent .0) (epoch .0) payload) (parent .0) (epoch .0) payload) ⌝ }
+    requires { ⌜ Counted scalars ⌝ }
+    ensures { λ r. ⌜ r ≡ draftChange unchanged
+        (lentBook scalars [] (blocks (lent parents) (lent epochs) (lent payloads)) noMessages)
+        parent epoch payload ⌝ }
 {
-    if still.head.last.0 < parent.0 {
-        return still.refused(refusal::NO_BLOCK);
+    let last = scalars.last.0;
+    if last < parent.0 {
+        return unchanged.refused(refusal::NO_BLOCK);
     }
-    if 511 < epoch.0 {
-        return still.refused(refusal::WIDE);
+    if WIDEST_EPOCH < epoch.0 {
+        return unchanged.refused(refusal::WIDE);
     }
-    let b = tables::name_block(
-        parents,
-        epochs,
-        payloads,
-        still.head.last.0,
-        parent.0,
-        epoch.0,
+    let b = tables::name_block(parents, epochs, payloads, last, parent.0, epoch.0, payload);
+    if b > MOST_BLOCKS {
+        return unchanged.refused(refusal::BLOCKS_FULL);
+    }
+    let header = Header {
+        parent,
+        epoch,
         payload,
-    );
-    if b > 255 {
-        return still.refused(refusal::BLOCKS_FULL);
-    }
-    let mut named = still.named(b, parent.0, epoch.0, payload);
-    named.value = b;
-    named
+    };
+    unchanged.named(Block(b as u8), header).accepted(b)
 }

@@ -1,159 +1,221 @@
 // Any of the eight steps, as the change that it makes.
 ghost use mathlib.Core.Path.{_≡_};
+ghost use mathlib.Core.Bool.{true};
 ghost use mathlib.Core.List.{[]};
-ghost use Rattle.register.specs.Changes.{whole, stillOf, Judged};
-ghost use Rattle.register.specs.Settled.{AllSettled};
+ghost use Rattle.words.specs.Lent.{lent};
+ghost use Rattle.register.specs.Lent.{Counted, lentBook, wholeBook, blocks, messages};
+ghost use Rattle.register.specs.Changes.{unchangedOf, CarriesOutFor};
+ghost use Rattle.register.specs.Settled.{Acts};
+use crate::actor::Actor;
+use crate::change::Answer;
 use crate::change::BlockEntry;
 use crate::change::Change;
-use crate::change::FinalEntry;
-use crate::change::Head;
+use crate::change::Clock;
 use crate::change::MessageEntry;
+use crate::change::OfficeEntry;
 use crate::change::PlaceEntry;
-use crate::fitness;
+use crate::change::Scalars;
+use crate::columns::About;
+use crate::columns::Epochs;
+use crate::columns::Leaders;
+use crate::columns::Parents;
+use crate::columns::Payloads;
+use crate::columns::Places;
+use crate::columns::Signers;
+use crate::columns::Votes;
 use crate::refusal;
-use crate::settled::settled_at;
+use crate::sorts::Block;
+use crate::sorts::Epoch;
+use crate::sorts::Office;
 use crate::step::Step;
 use crate::steps::advance;
 use crate::steps::bad_send;
 use crate::steps::deliver;
 use crate::steps::draft;
-use crate::steps::enter;
 use crate::steps::finalise;
 use crate::steps::propose;
+use crate::steps::register;
 use crate::steps::vote;
+use crate::table::Header;
 
-// The change that leaves a register as it is.
+// The change that leaves a book as it is.
 fn unchanged<'a>(
-    head: Head,
-    parents: &'a [u8; 256],
-    epochs: &'a [u16; 256],
-    payloads: &'a [u16; 256],
-    votes: &'a [bool; 1024],
-    signers: &'a [u8; 1024],
-    subjects: &'a [u8; 1024],
-    places: &'a [u64; 1024],
-    finals: &'a [u8; 32],
+    scalars: Scalars,
+    parents: &'a Parents,
+    epochs: &'a Epochs,
+    payloads: &'a Payloads,
+    votes: &'a Votes,
+    signers: &'a Signers,
+    about: &'a About,
+    places: &'a Places,
+    actor: Actor,
 ) -> Change
-    ensures { λ r. ⌜ r ≡ stillOf (whole head [] (now (parents .entry)) (now (epochs .entry)) (now (payloads .entry)) (now (votes .entry)) (now (signers .entry)) (now (subjects .entry)) (now (places .entry)) (now (finals .entry))) ⌝ }
+    ensures { λ r. ⌜ r ≡ unchangedOf
+        (lentBook scalars [] (blocks (lent parents) (lent epochs) (lent payloads))
+        (messages (lent votes) (lent signers) (lent about) (lent places)))
+        (actor .at) (actor .state) ⌝ }
 {
-    let block = BlockEntry {
-        at: 0,
-        parent: parents[0],
-        epoch: epochs[0],
+    let epoch = scalars.epoch;
+    let last = scalars.last;
+    let state = actor.state;
+    let place = places[0];
+    let header = Header {
+        parent: Block(parents[0]),
+        epoch: Epoch(epochs[0]),
         payload: payloads[0],
     };
-    let place = places[0];
     let message = MessageEntry {
+        count: scalars.count,
         at: 0,
         vote: votes[0],
-        signer: signers[0],
-        subject: subjects[0],
+        signer: Office(signers[0]),
+        about: Block(about[0]),
         place,
     };
     Change {
-        refusal: 0,
-        value: 0,
-        head,
-        block,
+        clock: Clock {
+            epoch,
+            acted: scalars.acted,
+        },
+        block: BlockEntry {
+            last,
+            at: 0,
+            header,
+        },
         message,
         place: PlaceEntry { at: 0, place },
-        ending: FinalEntry {
-            at: 0,
-            block: finals[0],
+        office: OfficeEntry {
+            at: actor.at,
+            state,
+        },
+        answer: Answer {
+            value: 0,
+            refusal: 0,
         },
     }
 }
 
-// The change that a step makes of the register of those single numbers and tables, where the final blocks of a set of offices are settled.
+// The change that a step makes of the book of those single numbers and columns, in which the actor holds its state. Where the book is not fit, a step
+// gets 5.
 pub(crate) fn judge<'a>(
-    head: Head,
-    leaders: &'a [u8; 256],
-    parents: &'a [u8; 256],
-    epochs: &'a [u16; 256],
-    payloads: &'a [u16; 256],
-    votes: &'a [bool; 1024],
-    signers: &'a [u8; 1024],
-    subjects: &'a [u8; 1024],
-    places: &'a [u64; 1024],
-    finals: &'a [u8; 32],
-    settled: u32,
+    fits: bool,
+    scalars: Scalars,
+    leaders: &'a Leaders,
+    parents: &'a Parents,
+    epochs: &'a Epochs,
+    payloads: &'a Payloads,
+    votes: &'a Votes,
+    signers: &'a Signers,
+    about: &'a About,
+    places: &'a Places,
+    actor: Actor,
     step: Step,
 ) -> Change
-    requires { ⌜ AllSettled (whole head (now leaders) (now parents) (now epochs) (now payloads) (now votes) (now signers) (now subjects) (now places) (now finals)) settled ⌝ }
-    ensures { λ r. ⌜ Judged (whole head (now (leaders .entry)) (now (parents .entry)) (now (epochs .entry)) (now (payloads .entry)) (now (votes .entry)) (now (signers .entry)) (now (subjects .entry)) (now (places .entry)) (now (finals .entry))) step r ⌝ }
+    requires { ⌜ (fits ≡ true → Counted scalars)
+        × Acts
+        (lentBook scalars (now leaders) (blocks (now parents) (now epochs) (now payloads))
+        (messages (now votes) (now signers) (now about) (now places)))
+        step actor ⌝ }
+    ensures { λ r. ⌜ CarriesOutFor fits
+        (wholeBook scalars (lent leaders) (blocks (lent parents) (lent epochs) (lent payloads))
+        (messages (lent votes) (lent signers) (lent about) (lent places)))
+        (actor .at) (actor .state) step r ⌝ }
 {
-    let still = unchanged(
-        head,
+    let same = unchanged(
+        scalars,
         parents,
         epochs,
         payloads,
         votes,
         signers,
-        subjects,
+        about,
         places,
-        finals,
+        actor,
     );
-    if !fitness::counts_fit(head.n, head.length, head.epoch, head.last.0, head.count) {
-        return still.refused(refusal::UNFIT_REGISTER);
+    if !fits {
+        return same.refused(refusal::UNFIT_REGISTER);
     }
     match step {
         Step::Propose(office, parent, payload) => propose::propose(
-            still,
+            same,
+            scalars,
             leaders,
             parents,
             epochs,
             payloads,
             signers,
-            subjects,
+            about,
             places,
             office,
             parent,
             payload,
         ),
-        Step::Vote(office, message) => {
-            vote::vote(
-                still,
-                leaders,
-                parents,
-                epochs,
+        Step::Vote(office, message) => vote::vote(
+            same,
+            scalars,
+            leaders,
+            parents,
+            epochs,
+            votes,
+            signers,
+            about,
+            places,
+            office,
+            message,
+        ),
+        Step::Register(office, message) => {
+            register::register(
+                same,
+                scalars,
                 votes,
                 signers,
-                subjects,
+                about,
                 places,
                 office,
                 message,
             )
         }
-        Step::Register(office, message) => enter::enter(
-            still,
-            votes,
-            signers,
-            subjects,
-            places,
-            office,
-            message,
-        ),
         Step::Finalise(office, newest) => {
-            let base = settled_at(finals, settled, office.0);
+            let base = actor.base;
             finalise::finalise(
-                still,
-                signers,
-                subjects,
-                places,
+                same,
+                scalars,
                 parents,
                 epochs,
+                signers,
+                about,
+                places,
                 base,
                 office,
                 newest,
             )
         }
-        Step::Deliver(message, office) => deliver::deliver(still, places, message, office),
-        Step::BadSend(sender, kind, signer, about) => {
-            bad_send::bad_send(still, votes, signers, subjects, sender, kind, signer, about)
+        Step::Deliver(message, office) => deliver::deliver(same, scalars, places, message, office),
+        Step::BadSend(sender, kind, signer, b) => {
+            bad_send::bad_send(
+                same,
+                scalars,
+                votes,
+                signers,
+                about,
+                sender,
+                kind,
+                signer,
+                b,
+            )
         }
         Step::Draft(parent, epoch, payload) => {
-            draft::draft(still, parents, epochs, payloads, parent, epoch, payload)
+            draft::draft(
+                same,
+                scalars,
+                parents,
+                epochs,
+                payloads,
+                parent,
+                epoch,
+                payload,
+            )
         }
-        Step::Advance => advance::advance(still),
+        Step::Advance => advance::advance(same, scalars),
     }
 }

@@ -1,13 +1,12 @@
 // The eight steps, each as the change that it makes.
-mod act;
 mod advance;
 mod bad_send;
 mod deliver;
 mod draft;
-mod enter;
+mod extending;
 mod finalise;
 pub mod judge;
-mod place;
+mod places;
 mod propose;
-mod sent;
+mod register;
 mod vote;

@@ -1,46 +1,57 @@
 // Propose: the leader names a block of the current epoch and sends its proposal.
 ghost use mathlib.Core.Path.{_≡_};
 ghost use mathlib.Core.List.{[]};
-ghost use Prim.Native.Nat.{_+_, _<_, _≤_};
-ghost use Rattle.words.specs.Digits.{digit, fill};
+ghost use Rattle.words.specs.Lent.{lent};
 ghost use Rattle.words.specs.Refusals.{first, until};
-ghost use Rattle.tables.specs.Blocks.{namedIn};
-ghost use Rattle.register.specs.Effects.{sentStage};
 ghost use Rattle.register.specs.Steps.{propose};
-ghost use Rattle.register.specs.Changes.{whole, answer, proposed};
+ghost use Rattle.register.specs.Lent.{Counted, lentBook, blocks, noBlocks, messages, noMessages};
+ghost use Rattle.register.specs.Changes.{proposeChange};
 use crate::change::Change;
-use crate::change::Head;
+use crate::change::Scalars;
+use crate::columns::About;
+use crate::columns::Epochs;
+use crate::columns::Leaders;
+use crate::columns::Parents;
+use crate::columns::Payloads;
+use crate::columns::Places;
+use crate::columns::Signers;
+use crate::limits::MOST_BLOCKS;
+use crate::limits::MOST_MESSAGES;
 use crate::refusal;
 use crate::sorts::Block;
+use crate::sorts::Message;
 use crate::sorts::Office;
-use crate::steps::act;
-use crate::steps::sent::sent_place;
+use crate::steps::extending::extending_refusal;
+use crate::steps::extending::leads;
+use crate::steps::places::sent_place;
+use crate::table::Header;
 
 // The refusal of a proposal by its tests up to 13: there is no such office or block, or the office is untrusted, has acted or does not
 // lead.
 fn leader_refusal(
-    head: Head,
-    leaders: &[u8; 256],
+    scalars: Scalars,
+    leaders: &Leaders,
     office: Office,
     parent: Block,
     payload: u16,
 ) -> u8
-    requires { ⌜ (1 ≤ head .epoch .0) × (head .epoch .0 ≤ 256) ⌝ }
-    ensures { λ r. ⌜ r ≡ first (until 19 (propose (whole head (now (leaders .entry)) [] [] [] [] [] [] [] []) office parent payload .tests)) ⌝ }
+    requires { ⌜ Counted scalars ⌝ }
+    ensures { λ r. ⌜ r ≡ first (until 19
+        (propose (lentBook scalars (lent leaders) noBlocks noMessages) office parent payload .tests)) ⌝ }
 {
-    if head.n <= office.0 {
+    if scalars.n <= office.0 {
         return refusal::NO_OFFICE;
     }
-    if head.last.0 < parent.0 {
+    if scalars.last.0 < parent.0 {
         return refusal::NO_BLOCK;
     }
-    if !tables::trusted_at(head.n, head.trust, office.0) {
+    if !tables::trusted_at(scalars.n, scalars.trust, office.0) {
         return refusal::BARRED;
     }
-    if words::has(head.acted, office.0) {
+    if words::has(scalars.acted, office.0) {
         return refusal::ACTED;
     }
-    if !act::leads(head, leaders, office.0) {
+    if !leads(scalars, leaders, office) {
         return refusal::NOT_LEADER;
     }
     0
@@ -48,95 +59,96 @@ fn leader_refusal(
 
 // The refusal of a proposal by its tests up to 20, which ask nothing of the block's name; 0 where there is none.
 fn parent_refusal<'a>(
-    head: Head,
-    leaders: &'a [u8; 256],
-    parents: &'a [u8; 256],
-    epochs: &'a [u16; 256],
-    signers: &'a [u8; 1024],
-    subjects: &'a [u8; 1024],
-    places: &'a [u64; 1024],
+    scalars: Scalars,
+    leaders: &'a Leaders,
+    parents: &'a Parents,
+    epochs: &'a Epochs,
+    signers: &'a Signers,
+    about: &'a About,
+    places: &'a Places,
     office: Office,
     parent: Block,
     payload: u16,
 ) -> u8
-    requires { ⌜ (head .n ≤ 32) × (head .count ≤ 1024) × (1 ≤ head .epoch .0) × (head .epoch .0 ≤ 256) ⌝ }
-    ensures { λ r. ⌜ r ≡ first (until 25 (propose (whole head (now (leaders .entry)) (now (parents .entry)) (now (epochs .entry)) [] [] (now (signers .entry)) (now (subjects .entry)) (now (places .entry)) []) office parent payload .tests)) ⌝ }
+    requires { ⌜ Counted scalars ⌝ }
+    ensures { λ r. ⌜ r ≡ first (until 25 (propose
+        (lentBook scalars (lent leaders) (blocks (lent parents) (lent epochs) [])
+        (messages [] (lent signers) (lent about) (lent places)))
+        office parent payload .tests)) ⌝ }
 {
-    let early = leader_refusal(head, leaders, office, parent, payload);
+    let early = leader_refusal(scalars, leaders, office, parent, payload);
     if early != 0 {
         return early;
     }
-    act::extend_refusal(
-        head,
+    let epoch = scalars.epoch;
+    extending_refusal(
+        scalars,
         parents,
         epochs,
         signers,
-        subjects,
+        about,
         places,
-        office.0,
-        parent.0,
-        head.epoch.0,
+        office,
+        parent,
+        epoch,
     )
-}
-
-// The change of an accepted proposal of office q: block b, of parent p and that payload, is named.
-fn send_proposal(still: Change, q: u8, b: u16, p: u8, payload: u16) -> Change
-    requires { ⌜ (still .head .n ≤ 32) × (still .head .count < 1024) × (q < 32) × (digit 2 (still .head .acted) q + 1 < 2) × (b ≤ 255) ⌝ }
-    ensures { λ r. ⌜ r ≡ proposed still b p (still .head .epoch .0) payload q (fill 4 (still .head .n) (sentStage (whole (still .head) [] [] [] [] [] [] [] [] []) q)) ⌝ }
-{
-    let head = still.head;
-    let word = sent_place(head, q);
-    let named = still.named(b, p, head.epoch.0, payload);
-    act::acted(named.sent(false, q, b as u8, word), q)
 }
 
 // The change that a proposal makes.
 pub(crate) fn propose<'a>(
-    still: Change,
-    leaders: &'a [u8; 256],
-    parents: &'a [u8; 256],
-    epochs: &'a [u16; 256],
-    payloads: &'a [u16; 256],
-    signers: &'a [u8; 1024],
-    subjects: &'a [u8; 1024],
-    places: &'a [u64; 1024],
+    unchanged: Change,
+    scalars: Scalars,
+    leaders: &'a Leaders,
+    parents: &'a Parents,
+    epochs: &'a Epochs,
+    payloads: &'a Payloads,
+    signers: &'a Signers,
+    about: &'a About,
+    places: &'a Places,
     office: Office,
     parent: Block,
     payload: u16,
 ) -> Change
-    requires { ⌜ (still .head .n ≤ 32) × (still .head .count ≤ 1024) × (1 ≤ still .head .epoch .0) × (still .head .epoch .0 ≤ 256) × (still .head .last .0 ≤ 255) ⌝ }
-    ensures { λ r. ⌜ r ≡ answer still (first (propose (whole (still .head) (now (leaders .entry)) (now (parents .entry)) (now (epochs .entry)) (now (payloads .entry)) [] (now (signers .entry)) (now (subjects .entry)) (now (places .entry)) []) office parent payload .tests)) (proposed still (namedIn (now (parents .entry)) (now (epochs .entry)) (now (payloads .entry)) (still .head .last .0) (parent .0) (still .head .epoch .0) payload) (parent .0) (still .head .epoch .0) payload (office .0) (fill 4 (still .head .n) (sentStage (whole (still .head) [] [] [] [] [] [] [] [] []) (office .0)))) ⌝ }
+    requires { ⌜ Counted scalars ⌝ }
+    ensures { λ r. ⌜ r ≡ proposeChange unchanged
+        (lentBook scalars (lent leaders) (blocks (lent parents) (lent epochs) (lent payloads))
+        (messages [] (lent signers) (lent about) (lent places)))
+        office parent payload ⌝ }
 {
-    let head = still.head;
     let refusal = parent_refusal(
-        head,
+        scalars,
         leaders,
         parents,
         epochs,
         signers,
-        subjects,
+        about,
         places,
         office,
         parent,
         payload,
     );
     if refusal != 0 {
-        return still.refused(refusal);
+        return unchanged.refused(refusal);
     }
-    let b = tables::name_block(
-        parents,
-        epochs,
-        payloads,
-        head.last.0,
-        parent.0,
-        head.epoch.0,
+    let epoch = scalars.epoch;
+    let last = scalars.last.0;
+    let b = tables::name_block(parents, epochs, payloads, last, parent.0, epoch.0, payload);
+    if b > MOST_BLOCKS {
+        return unchanged.refused(refusal::BLOCKS_FULL);
+    }
+    if scalars.count >= MOST_MESSAGES {
+        return unchanged.refused(refusal::MESSAGES_FULL);
+    }
+    let word = sent_place(scalars, office);
+    let block = Block(b as u8);
+    let header = Header {
+        parent,
+        epoch,
         payload,
-    );
-    if b > 255 {
-        return still.refused(refusal::BLOCKS_FULL);
-    }
-    if 1024 <= head.count {
-        return still.refused(refusal::MESSAGES_FULL);
-    }
-    send_proposal(still, office.0, b, parent.0, payload)
+    };
+    let next = Message(scalars.count);
+    let sent = unchanged
+        .named(block, header)
+        .sent(next, false, office, block, word);
+    sent.acted(office).accepted(scalars.count)
 }

@@ -1,4 +1,4 @@
--- `register::fitness::leaders_fit`: at each turn the leaders below i have been tested.
+-- `leaders_fit`: after i turns the leaders below i have been tested.
 use borrow.Author.Needs.{needs}
 use Prim.Native.Nat.{_-_, _≤_}
 use mathlib.Core.Path.{_≡_, refl}
@@ -16,19 +16,6 @@ Inv-loop leaders length n fits₀ i₀ fits i = (i ≤ length) × (fits ≡ all 
 abbrev μ-loop : tie.MeasureT-loop
 μ-loop leaders length n fits₀ i₀ fits i = length - i
 
-loop-holds : tie.Need-loop-holds Inv-loop μ-loop
-unfolding all
-loop-holds c = (search needs, refl)
-
-element-copy-out-fits : tie.Need-element-copy-out-fits Inv-loop μ-loop
-element-copy-out-fits c = search needs
-
-add-i : tie.Need-add-i Inv-loop μ-loop
-add-i c = search needs
-
-loop-less : tie.Need-loop-less Inv-loop μ-loop
-loop-less c = search needs
-
 loop-again : tie.Need-loop-again Inv-loop μ-loop
 loop-again c = (search needs, all-next _ _ _ _ (c .before .before .loop .inv .1) refl)
 
@@ -38,6 +25,15 @@ returns c =
     rw end at (c .before .loop .inv .1)
 
 pub leaders-fit-spec : {M : Type 1} → statement M
+unfolding all
 leaders-fit-spec =
     tie.close
-    (tie.spec Inv-loop μ-loop loop-holds element-copy-out-fits add-i loop-less loop-again returns)
+    (tie.spec
+    Inv-loop
+    μ-loop
+    (λ c. (search needs, refl))
+    (λ c. search needs)
+    (λ c. search needs)
+    (λ c. search needs)
+    loop-again
+    returns)

@@ -1,4 +1,4 @@
--- `register::fitness::messages_fit`: at each turn the messages below m have been tested.
+-- `messages_fit`: after m turns the messages below m have been tested.
 use borrow.Author.Needs.{needs}
 use Prim.Native.Nat.{_-_, _≤_}
 use mathlib.Core.Path.{_≡_, refl}
@@ -11,29 +11,11 @@ use Rattle.register.proofs.fitness.messages_fit.Statement.{statement}
 use Rattle.register.proofs.fitness.messages_fit.Tie as tie
 
 abbrev Inv-loop : tie.InvT-loop
-Inv-loop signers subjects count n last fits₀ m₀ fits m = (m ≤ count) × (fits ≡ all m (λ i. messageFits n last (getD signers i 0) (getD subjects i 0)))
+Inv-loop signers about count n last fits₀ m₀ fits m =
+    (m ≤ count) × (fits ≡ all m (λ i. messageFits n last (getD signers i 0) (getD about i 0)))
 
 abbrev μ-loop : tie.MeasureT-loop
-μ-loop signers subjects count n last fits₀ m₀ fits m = count - m
-
-loop-holds : tie.Need-loop-holds Inv-loop μ-loop
-unfolding all
-loop-holds c = (search needs, refl)
-
-element-copy-out-message-fits : tie.Need-element-copy-out-message-fits Inv-loop μ-loop
-element-copy-out-message-fits c = search needs
-
-element-copy-out-message-fits-2 : tie.Need-element-copy-out-message-fits-2 Inv-loop μ-loop
-element-copy-out-message-fits-2 c = search needs
-
-message-fits-requires : tie.Need-message-fits-requires Inv-loop μ-loop
-message-fits-requires c κs = search needs
-
-add-m : tie.Need-add-m Inv-loop μ-loop
-add-m c = search needs
-
-loop-less : tie.Need-loop-less Inv-loop μ-loop
-loop-less c = search needs
+μ-loop signers about count n last fits₀ m₀ fits m = count - m
 
 loop-again : tie.Need-loop-again Inv-loop μ-loop
 loop-again c = (search needs, all-next _ _ _ _ (c .before .before .before .before .loop .inv .1) (c .message-fits .ensures))
@@ -44,16 +26,17 @@ returns c =
     rw end at (c .before .loop .inv .1)
 
 pub messages-fit-spec : {M : Type 1} → statement M
+unfolding all
 messages-fit-spec =
     tie.close
     (tie.spec
     Inv-loop
     μ-loop
-    loop-holds
-    element-copy-out-message-fits
-    element-copy-out-message-fits-2
-    message-fits-requires
-    add-m
-    loop-less
+    (λ c. (search needs, refl))
+    (λ c. search needs)
+    (λ c. search needs)
+    (λ c κs. search needs)
+    (λ c. search needs)
+    (λ c. search needs)
     loop-again
     returns)

@@ -1,7 +1,6 @@
--- `register::opening::leader_table`: at each turn the first i leaders are in the table.
+-- `leader_table`: after i turns the first i leaders are in the table.
 use borrow.Author.Needs.{needs}
-use Prim.Native.Nat.{ℕ, _-_, _≤_}
-use mathlib.Core.List.{List}
+use Prim.Native.Nat.{_-_, _≤_}
 use mathlib.Core.Path.{_≡_, refl, _∙_}
 use native.Mathlib.Omega.{arith}
 use lib.Seq.{take-length}
@@ -21,28 +20,16 @@ loop-holds : tie.Need-loop-holds Inv-loop μ-loop
 unfolding leaderTable
 loop-holds c = (search needs, refl)
 
-shared-slice-read-leaders : tie.Need-shared-slice-read-leaders Inv-loop μ-loop
-shared-slice-read-leaders c = search needs
-
-array-write-leaders : tie.Need-array-write-leaders Inv-loop μ-loop
-array-write-leaders c = search needs
-
-add-i : tie.Need-add-i Inv-loop μ-loop
-add-i c = search needs
-
-loop-less : tie.Need-loop-less Inv-loop μ-loop
-loop-less c = search needs
-
 loop-again : tie.Need-loop-again Inv-loop μ-loop
 loop-again c =
-    let schedule : List ℕ = c .before .before .before .args .schedule .now in
-    (search needs, rw (c .before .before .loop .inv .1) (next-leader schedule (c .before .before .loop .i) (search needs) (search needs)))
+    let at = c .before .before in
+    let next = next-leader (at .before .args .schedule .now) (at .loop .i) (search needs) (search needs) in
+    (search needs, rw (at .loop .inv .1) next)
 
 returns : tie.Need-returns Inv-loop μ-loop
 returns c =
-    let schedule : List ℕ = c .before .before .args .schedule .now in
-    let end : c .before .loop .i ≡ length schedule = omega arith in
-    c .before .loop .inv .1 ∙ rw (end, take-length schedule)
+    let end : c .before .loop .i ≡ length (c .before .before .args .schedule .now) = omega arith in
+    c .before .loop .inv .1 ∙ rw (end, take-length)
 
 pub leader-table-spec : {M : Type 1} → statement M
 leader-table-spec =
@@ -51,9 +38,9 @@ leader-table-spec =
     Inv-loop
     μ-loop
     loop-holds
-    shared-slice-read-leaders
-    array-write-leaders
-    add-i
-    loop-less
+    (λ c. search needs)
+    (λ c. search needs)
+    (λ c. search needs)
+    (λ c. search needs)
     loop-again
     returns)

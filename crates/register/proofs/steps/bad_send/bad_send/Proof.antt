@@ -1,47 +1,50 @@
--- `bad_send`: refused by its tests, or the message is sent.
+-- `bad_send` refuses what its tests refuse, and else sends the message.
 use borrow.Author.Needs.{needs}
-use mathlib.Core.Path.{sym, _∙_}
-use Rattle.register.specs.Changes.{whole}
-use Rattle.register.proofs.Changing.{answer-refused, answer-accepted}
-use Rattle.register.proofs.Sending.{bad-send-room}
+use mathlib.Core.Path.{_∙_}
+use mathlib.Core.List.{[]}
+use Rattle.register.specs.declared.step.Step.{Step}
+use Rattle.register.specs.declared.step.Step.the-variants as steps
+use Rattle.register.specs.declared.book.Book.{Book}
+use Rattle.register.specs.Lent.{lentBook, noBlocks, messages}
+use Rattle.register.specs.Effects.{sentStage}
+use Rattle.register.specs.Steps.{badSend, ruleOf}
+use Rattle.register.specs.Changes.{badSendChange}
+use Rattle.register.proofs.Accepted.{Accepted}
+use Rattle.register.proofs.Answering.{refuses, accepts, accepted-by}
 use Rattle.register.proofs.steps.bad_send.bad_send.Statement.{statement}
 use Rattle.register.proofs.steps.bad_send.bad_send.Tie as tie
 
-bad-send-refusal-requires : tie.Need-bad-send-refusal-requires
-bad-send-refusal-requires c κs = c .before .pre .1
+-- the book that is lent
+abbrev given : tie.Start → Book
+given s =
+    let a = s .args in
+    lentBook (a .scalars) [] noBlocks (messages (a .votes .now) (a .signers .now) (a .about .now) [])
 
-refused-requires : tie.Need-refused-requires
-refused-requires c κs = search needs
+-- and the step
+abbrev asked : tie.Start → Step
+asked s = steps.BadSend (s .args .sender) (s .args .kind) (s .args .signer) (s .args .b)
 
-returns : tie.Need-returns
-returns c = c .refused .ensures ∙ answer-refused _ _ _ _ (c .before .before .bad-send-refusal .ensures) (c .before .if1 .taken)
-
-is-vote-requires : tie.Need-is-vote-requires
-is-vote-requires c κs = search needs
-
-sent-place-requires : tie.Need-sent-place-requires
-sent-place-requires c κs = c .before .before .before .before .pre .0
-
-sent-requires : tie.Need-sent-requires
-unfolding whole
-sent-requires c κs = bad-send-room _ _ _ _ _ (sym (c .before .before .before .bad-send-refusal .ensures) ∙ c .before .before .if1 .left)
-
-returns-2 : tie.Need-returns-2
-returns-2 c =
-    let at-is-vote = c .before .before in
-    let at-if1 = at-is-vote .before in
-    let at-bad-send-refusal = at-if1 .before in
-    rw (c .sent .ensures, at-is-vote .is-vote .ensures, c .before .sent-place .ensures)
-    (answer-accepted _ _ _ _ (at-bad-send-refusal .bad-send-refusal .ensures) (at-if1 .if1 .left))
+-- what an accepted bad send's tests tell
+known : (c : tie.Else1) → Accepted (given (c .before .before)) (asked (c .before .before))
+unfolding ruleOf
+known c =
+    accepted-by (given (c .before .before)) (asked (c .before .before)) _ (c .before .bad-send-refusal .ensures)
+    (c .if1 .left)
 
 pub bad-send-spec : {M : Type 1} → statement M
+unfolding badSendChange badSend sentStage
 bad-send-spec =
     tie.close
     (tie.spec
-    bad-send-refusal-requires
-    refused-requires
-    returns
-    is-vote-requires
-    sent-place-requires
-    sent-requires
-    returns-2)
+    (λ c κs. search needs)
+    (λ c κs. search needs)
+    (λ c. c .refused .ensures ∙ refuses _ _ _ _ (c .before .before .bad-send-refusal .ensures) (c .before .if1 .taken))
+    (λ c κs. search needs)
+    (λ c κs. search needs)
+    (λ c κs. known (c .before .before) .room)
+    (λ c κs. search needs)
+    (λ c.
+    rw (c .accepted .ensures, c .before .sent .ensures)
+    (rw (c .before .before .is-vote .ensures, c .before .before .before .sent-place .ensures)
+    (accepts _ _ _ _ (c .before .before .before .before .before .bad-send-refusal .ensures)
+    (c .before .before .before .before .if1 .left)))))

@@ -1,30 +1,51 @@
--- `deliver`: refused by its tests, or the message moves on.
+-- `deliver` refuses what its tests refuse, and else moves the message.
 use borrow.Author.Needs.{needs}
-use mathlib.Core.Path.{sym, _∙_}
-use Rattle.register.specs.Changes.{whole}
-use Rattle.register.proofs.Accepted.{deliver-placed, movable}
-use Rattle.register.proofs.Changing.{answer-refused, answer-accepted}
+use mathlib.Core.Path.{_∙_}
+use mathlib.Core.List.{[]}
+use native.Mathlib.Omega.{arith}
+use Rattle.register.specs.declared.step.Step.{Step}
+use Rattle.register.specs.declared.step.Step.the-variants as steps
+use Rattle.register.specs.declared.book.Book.{Book}
+use Rattle.register.specs.Lent.{lentBook, noBlocks, messages}
+use Rattle.register.specs.Steps.{deliver, ruleOf}
+use Rattle.register.specs.Changes.{deliverChange}
+use Rattle.register.proofs.Accepted.{Accepted}
+use Rattle.register.proofs.Answering.{refuses, accepts, accepted-by}
 use Rattle.register.proofs.steps.deliver.deliver.Statement.{statement}
 use Rattle.register.proofs.steps.deliver.deliver.Tie as tie
 
-deliver-refusal-requires : tie.Need-deliver-refusal-requires
-deliver-refusal-requires c κs = c .before .pre .1
+-- the book that is lent
+abbrev given : tie.Start → Book
+given s =
+    let a = s .args in
+    lentBook (a .scalars) [] noBlocks (messages [] [] [] (a .places .now))
 
-refused-requires : tie.Need-refused-requires
-refused-requires c κs = search needs
+-- and the step
+abbrev asked : tie.Start → Step
+asked s = steps.Deliver (s .args .message) (s .args .office)
 
-returns : tie.Need-returns
-returns c = c .refused .ensures ∙ answer-refused _ _ _ _ (c .before .before .deliver-refusal .ensures) (c .before .if1 .taken)
-
-move-on-requires : tie.Need-move-on-requires
-unfolding whole
-move-on-requires c κs =
-    (c .before .before .before .pre .1, movable _ _ _ 1 (c .before .before .before .pre .0) (search needs) (deliver-placed _ _ _ (sym (c .before .deliver-refusal .ensures) ∙ c .if1 .left)))
-
-returns-2 : tie.Need-returns-2
-returns-2 c = c .move-on .ensures ∙ answer-accepted _ _ _ _ (c .before .before .deliver-refusal .ensures) (c .before .if1 .left)
+-- what an accepted delivery's tests tell
+known : (c : tie.Else1) → Accepted (given (c .before .before)) (asked (c .before .before))
+unfolding ruleOf
+known c =
+    accepted-by (given (c .before .before)) (asked (c .before .before)) _ (c .before .deliver-refusal .ensures)
+    (c .if1 .left)
 
 pub deliver-spec : {M : Type 1} → statement M
+unfolding deliverChange deliver
 deliver-spec =
     tie.close
-    (tie.spec deliver-refusal-requires refused-requires returns move-on-requires returns-2)
+    (tie.spec
+    (λ c κs. search needs)
+    (λ c κs. search needs)
+    (λ c. c .refused .ensures ∙ refuses _ _ _ _ (c .before .before .deliver-refusal .ensures) (c .before .if1 .taken))
+    (λ c. search needs)
+    (λ c. search needs)
+    (λ c. omega (arith, known (c .before) .sent))
+    (λ c κs. search needs)
+    (λ c κs. search needs)
+    (λ c κs. search needs)
+    (λ c.
+    rw (c .accepted .ensures, c .before .moved .ensures, c .before .before .with-stage .ensures)
+    (accepts _ _ _ _ (c .before .before .before .before .before .before .deliver-refusal .ensures)
+    (c .before .before .before .before .before .if1 .left))))

@@ -1,37 +1,62 @@
--- `vote`: refused by its tests, or the vote is cast.
+-- `vote` refuses what its tests refuse, and else moves the proposal and sends the vote.
 use borrow.Author.Needs.{needs}
-use mathlib.Core.Path.{_≡_, sym, _∙_}
+use mathlib.Core.Path.{_∙_}
 use mathlib.Core.List.{[]}
-use Rattle.words.specs.Refusals.{first}
-use Rattle.register.specs.declared.table.Register.{Register}
-use Rattle.register.specs.Steps.{vote}
-use Rattle.register.specs.Changes.{whole}
-use Rattle.register.proofs.Accepted.{vote-placed, vote-ready, vote-room, movable}
-use Rattle.register.proofs.Changing.{answer-refused, answer-accepted}
+use native.Mathlib.Omega.{arith}
+use Rattle.register.specs.declared.step.Step.{Step}
+use Rattle.register.specs.declared.step.Step.the-variants as steps
+use Rattle.register.specs.declared.book.Book.{Book}
+use Rattle.register.specs.Lent.{lentBook, blocks, messages}
+use Rattle.register.specs.Effects.{sentStage}
+use Rattle.register.specs.Steps.{vote, ruleOf}
+use Rattle.register.specs.Changes.{voteChange}
+use Rattle.register.proofs.Accepted.{Accepted}
+use Rattle.register.proofs.Answering.{refuses, accepts, accepted-by}
 use Rattle.register.proofs.steps.vote.vote.Statement.{statement}
 use Rattle.register.proofs.steps.vote.vote.Tie as tie
 
-vote-refusal-requires : tie.Need-vote-refusal-requires
-vote-refusal-requires c κs = c .before .pre
+-- the book that is lent
+abbrev given : tie.Start → Book
+given s =
+    let a = s .args in
+    lentBook (a .scalars) (a .leaders .now) (blocks (a .parents .now) (a .epochs .now) [])
+    (messages (a .votes .now) (a .signers .now) (a .about .now) (a .places .now))
 
-refused-requires : tie.Need-refused-requires
-refused-requires c κs = search needs
+-- and the step
+abbrev asked : tie.Start → Step
+asked s = steps.Vote (s .args .office) (s .args .message)
 
-returns : tie.Need-returns
-returns c = c .refused .ensures ∙ answer-refused _ _ _ _ (c .before .before .vote-refusal .ensures) (c .before .if1 .taken)
+-- what an accepted vote's tests tell
+known : (c : tie.Else1) → Accepted (given (c .before .before)) (asked (c .before .before))
+unfolding ruleOf
+known c =
+    accepted-by (given (c .before .before)) (asked (c .before .before)) _ (c .before .vote-refusal .ensures)
+    (c .if1 .left)
 
-cast-requires : tie.Need-cast-requires
-unfolding whole
-cast-requires c κs =
-    let a = c .before .before .before .args in
-    let r : Register = whole (a .still .head) (a .leaders .now) (a .parents .now) (a .epochs .now) [] (a .votes .now) (a .signers .now) (a .subjects .now) (a .places .now) [] in
-    let none : first (vote r (a .office) (a .message) .tests) ≡ 0 = sym (c .before .vote-refusal .ensures) ∙ c .if1 .left in
-    let few = c .before .before .before .pre .0 in
-    (few, vote-room r _ _ none, vote-ready r _ _ none, movable r _ _ 2 few (search needs) (vote-placed r _ _ none))
-
-returns-2 : tie.Need-returns-2
-returns-2 c = c .cast .ensures ∙ answer-accepted _ _ _ _ (c .before .before .vote-refusal .ensures) (c .before .if1 .left)
+-- past the refusal, seen from the end
+abbrev before : tie.After-accepted → tie.Else1
+before c = c .before .before .before .before .before .before .before .before .before
 
 pub vote-spec : {M : Type 1} → statement M
+unfolding voteChange vote sentStage
 vote-spec =
-    tie.close (tie.spec vote-refusal-requires refused-requires returns cast-requires returns-2)
+    tie.close
+    (tie.spec
+    (λ c κs. search needs)
+    (λ c κs. search needs)
+    (λ c. c .refused .ensures ∙ refuses _ _ _ _ (c .before .before .vote-refusal .ensures) (c .before .if1 .taken))
+    (λ c. search needs)
+    (λ c κs. search needs)
+    (λ c. omega (arith, known (c .before .before) .message .sent))
+    (λ c. search needs)
+    (λ c. omega (arith, known (c .before .before .before) .message .sent))
+    (λ c κs. search needs)
+    (λ c κs. known (c .before .before .before .before .before) .signs .room)
+    (λ c κs. search needs)
+    (λ c κs. search needs)
+    (λ c κs. search needs)
+    (λ c.
+    rw (c .accepted .ensures, c .before .acted .ensures, c .before .before .moved .ensures)
+    (rw (c .before .before .before .sent .ensures, c .before .before .before .before .with-stage .ensures)
+    (rw (c .before .before .before .before .before .before .before .sent-place .ensures)
+    (accepts _ _ _ _ (before c .before .vote-refusal .ensures) (before c .if1 .left))))))

@@ -1,86 +1,101 @@
--- `vote_refusal` joins the three groups of tests.
+-- `vote_refusal`: past the proposal's tests the signature's decides, then the parent's, then the messages'.
 use borrow.Author.Needs.{needs}
+use Prim.Native.Nat.{ℕ, _<_}
 use mathlib.Core.Path.{_≡_, refl, sym, _∙_}
+use mathlib.Core.Bool.{true}
 use mathlib.Core.List.{List, []}
+use native.Mathlib.Omega.{arith}
+use borrow.Author.Tests.{leb-false, not-false}
 use Rattle.words.specs.Tests.{choose, both}
 use Rattle.words.specs.Refusals.{Refusal, first, until, since}
-use Rattle.words.proofs.Refusals.{positive, first-early, first-late}
-use Rattle.register.specs.declared.table.Register.{Register}
-use Rattle.register.specs.Tables.{trusted, acted, leaderOf, parentOf, epochOf, sentOf}
-use Rattle.register.specs.Views.{stage, inInbox, inView, says, signed, signers, notarised}
-use Rattle.register.specs.Chains.{chain, chainLength, valid, chainNotarised, longer, longest}
-use Rattle.register.specs.Refusals.{noOffice, noMessage, barred, leads, notInHand, votes, offEpoch, entered, notLongest, messagesFull}
+use Rattle.words.proofs.Refusals.{positive}
+use Rattle.words.proofs.Clearing.{Clear, clear}
+use Rattle.words.proofs.Turns.{turns, hit, skip, answered}
+use Rattle.register.specs.declared.book.Book.{Book}
+use Rattle.register.specs.Lent.{lentBook, blocks, messages}
+use Rattle.register.specs.Tables.{trusted}
+use Rattle.register.specs.Views.{stage, signed}
 use Rattle.register.specs.Steps.{vote}
-use Rattle.register.specs.Changes.{whole}
-use Rattle.register.proofs.Accepted.{vote-known}
+use Rattle.register.proofs.Answering.{early, late, longest-searched}
 use Rattle.register.proofs.steps.vote.vote_refusal.Statement.{statement}
 use Rattle.register.proofs.steps.vote.vote_refusal.Tie as tie
 
-ready-refusal-requires : tie.Need-ready-refusal-requires
-ready-refusal-requires c κs = search needs
+-- the book that is lent, and the tests of the vote that is asked for
+abbrev given : tie.Start → Book
+given s =
+    let a = s .args in
+    lentBook (a .scalars) (a .leaders .now) (blocks (a .parents .now) (a .epochs .now) [])
+    (messages (a .votes .now) (a .signers .now) (a .about .now) (a .places .now))
 
-returns : tie.Need-returns
-unfolding vote noOffice noMessage barred trusted acted until choose whole
-returns c =
-    let a = c .before .before .args in
-    let r : Register = whole (a .head) (a .leaders .now) (a .parents .now) (a .epochs .now) [] (a .votes .now) (a .signers .now) (a .subjects .now) (a .places .now) [] in
-    let tests : List Refusal = vote r (a .office) (a .message) .tests in
-    let early : c .before .ready-refusal .result ≡ first (until 14 tests) = c .before .ready-refusal .ensures in
-    early ∙ sym (first-early 14 tests (λ none. c .if1 .taken (early ∙ none)))
+abbrev tests : tie.Start → List Refusal
+tests s = vote (given s) (s .args .office) (s .args .message) .tests
 
-proposal-refusal-requires : tie.Need-proposal-refusal-requires
-unfolding whole
-proposal-refusal-requires c κs =
-    let a = c .before .before .args in
-    let known = c .before .before .pre in
-    (known .1, known .2, known .3, vote-known _ (a .office) (a .message) (sym (c .before .ready-refusal .ensures) ∙ c .if1 .left) .0)
+-- those up to 17, as they were found
+found : (c : tie.After-proposal-refusal)
+    → c .proposal-refusal .result ≡ first (until 18 (tests (c .before)))
+unfolding vote until choose stage
+found c = c .proposal-refusal .ensures
 
-returns-2 : tie.Need-returns-2
-unfolding vote noOffice noMessage barred trusted acted leads leaderOf notInHand inInbox stage votes offEpoch epochOf sentOf until since choose whole positive both
-returns-2 c =
-    let at-if1 = c .before .before in
-    let at-ready-refusal = at-if1 .before in
-    let entry = at-ready-refusal .before in
-    let a = entry .args in
-    let r : Register = whole (a .head) (a .leaders .now) (a .parents .now) (a .epochs .now) [] (a .votes .now) (a .signers .now) (a .subjects .now) (a .places .now) [] in
-    let tests : List Refusal = vote r (a .office) (a .message) .tests in
-    let early : at-ready-refusal .ready-refusal .result ≡ first (until 14 tests) = at-ready-refusal .ready-refusal .ensures in
-    let middle : c .before .proposal-refusal .result ≡ first (until 18 (since 14 tests)) = c .before .proposal-refusal .ensures in
-    middle ∙ sym (first-late 14 tests refl (sym early ∙ at-if1 .if1 .left) ∙ first-early 18 (since 14 tests) (λ none. c .if2 .taken (middle ∙ none)))
+-- past them those that are left decide
+past : (c : tie.Else1) (x : ℕ) → x ≡ first (since 18 (tests (c .before .before))) → x ≡ first (tests (c .before .before))
+unfolding vote positive both
+past c x rest = late 18 _ _ x refl (found (c .before)) (c .if1 .left) rest
 
-view-refusal-requires : tie.Need-view-refusal-requires
-unfolding whole trusted
-view-refusal-requires c κs =
-    let at-if1 = c .before .before in
-    let at-ready-refusal = at-if1 .before in
-    let entry = at-ready-refusal .before in
-    let a = entry .args in
-    let known = entry .pre in
-    let found = vote-known _ (a .office) (a .message) (sym (at-ready-refusal .ready-refusal .ensures) ∙ at-if1 .if1 .left) in
-    (known .0, known .1, found .1, found .0)
+-- each of them fails: the message has been sent, and the office is trusted
+fails : (c : tie.Else1) → Clear (until 18 (tests (c .before .before)))
+fails c = clear _ (sym (found (c .before)) ∙ c .if1 .left)
 
-returns-3 : tie.Need-returns-3
-unfolding vote noOffice noMessage barred trusted acted leads leaderOf notInHand inInbox stage votes offEpoch epochOf sentOf until since choose whole positive both entered signed inView says notLongest longest longer chainNotarised valid chain chainLength parentOf notarised signers messagesFull
-returns-3 c =
-    let at-proposal-refusal = c .before .before in
-    let at-if1 = at-proposal-refusal .before in
-    let at-ready-refusal = at-if1 .before in
-    let entry = at-ready-refusal .before in
-    let a = entry .args in
-    let r : Register = whole (a .head) (a .leaders .now) (a .parents .now) (a .epochs .now) [] (a .votes .now) (a .signers .now) (a .subjects .now) (a .places .now) [] in
-    let tests : List Refusal = vote r (a .office) (a .message) .tests in
-    let early : at-ready-refusal .ready-refusal .result ≡ first (until 14 tests) = at-ready-refusal .ready-refusal .ensures in
-    let middle : at-proposal-refusal .proposal-refusal .result ≡ first (until 18 (since 14 tests)) = at-proposal-refusal .proposal-refusal .ensures in
-    let late : c .view-refusal .result ≡ first (since 18 (since 14 tests)) = c .view-refusal .ensures in
-    late ∙ sym (first-late 14 tests refl (sym early ∙ at-if1 .if1 .left) ∙ first-late 18 (since 14 tests) refl (sym middle ∙ c .before .if2 .left))
+sent : (c : tie.Else1) → c .before .before .args .message .0 < 1024
+unfolding vote until choose
+sent c = omega (arith, leb-false _ (c .before .before .args .message .0) (fails c .1 .0))
+
+trusts : (c : tie.Else1) → trusted (given (c .before .before)) (c .before .before .args .office .0) ≡ true
+unfolding vote until choose
+trusts c = not-false _ (fails c .1 .1 .0)
+
+-- where the call started, seen from past 18
+abbrev start : tie.Else2 → tie.Start
+start c = c .before .before .before .before
+
+-- past 18 those of the parent and of the messages decide
+later : (c : tie.Else2) (x : ℕ) → x ≡ first (since 19 (tests (start c))) → x ≡ first (tests (start c))
+unfolding vote since choose stage signed
+later c x rest =
+    past (c .before .before) x
+    (skip _ x _ _ (answered _ _ _ (c .before .is-entered .ensures) (c .if2 .left)) rest)
+
+-- past 18, seen from behind the tests of the parent
+abbrev past-18 : tie.After-extending-refusal → tie.Else2
+past-18 c = c .before .before .before .before .before
+
+-- the parent's, as they were found
+extends : (c : tie.After-extending-refusal)
+    → c .extending-refusal .result ≡ first (until 26 (since 19 (tests (start (past-18 c)))))
+unfolding vote until since choose
+extends c =
+    rw longest-searched
+    (rw (c .before .before .parent-at .ensures, c .before .epoch-at .ensures) at (c .extending-refusal .ensures))
+
+-- past 20 that of the messages decides
+last : (c : tie.Else3) (x : ℕ) → x ≡ first (since 26 (tests (start (past-18 (c .before)))))
+    → x ≡ first (tests (start (past-18 (c .before))))
+unfolding vote since choose positive both
+last c x rest = later (past-18 (c .before)) x (late 26 _ _ x refl (extends (c .before)) (c .if3 .left) rest)
 
 pub vote-refusal-spec : {M : Type 1} → statement M
+unfolding vote since choose stage signed
 vote-refusal-spec =
     tie.close
     (tie.spec
-    ready-refusal-requires
-    returns
-    proposal-refusal-requires
-    returns-2
-    view-refusal-requires
-    returns-3)
+    (λ c κs. search needs)
+    (λ c. early 18 _ _ (found (c .before)) (c .if1 .taken))
+    (λ c κs. (search needs, sent c, trusts c))
+    (λ c. past (c .before .before) 18 (hit _ _ _ (answered _ _ _ (c .before .is-entered .ensures) (c .if2 .taken))))
+    (λ c. search needs)
+    (λ c. sent (c .before .before .before))
+    (λ c κs. search needs)
+    (λ c κs. search needs)
+    (λ c κs. (search needs, trusts (c .before .before .before .before .before .before)))
+    (λ c. later (past-18 (c .before)) _ (early 26 _ _ (extends (c .before)) (c .if3 .taken)))
+    (λ c. last (c .before .before) 26 (search turns depth 3))
+    (λ c. last (c .before .before) 0 (search turns depth 3)))

@@ -1,122 +1,88 @@
--- `Register::run`: after i turns the register and the answers are those of the first i steps, and the final blocks of the set's offices are settled.
+-- `Register::run`: after i turns what is held is the book, the answers and what is known after the first i steps.
 use borrow.Author.Needs.{needs}
 use Prim.Native.Nat.{_-_, _<_, _≤_, min}
 use mathlib.Core.Path.{_≡_, refl}
 use native.Mathlib.Omega.{arith}
-use Rattle.register.specs.Runs.{stepAt, ranFirst}
-use Rattle.register.specs.Changes.{whole, written}
-use Rattle.register.specs.Settled.{AllSettled}
-use Rattle.register.proofs.Running.{ran-next}
-use Rattle.register.proofs.Settling.{none-settled, all-settled-next}
+use lib.ListN.{length, getD}
+use Rattle.register.specs.declared.step.Step.{Step}
+use Rattle.register.specs.declared.step.Step.the-variants.{Propose}
+use Rattle.register.specs.declared.actor.Actor.{Actor}
+use Rattle.register.specs.Books.{office, block, registerOf}
+use Rattle.register.specs.Views.{stage, signed, notarised}
+use Rattle.register.specs.Chains.{chain, chainNotarised}
+use Rattle.register.specs.Fitness.{fit}
+use Rattle.register.specs.Tables.{stateOf}
+use Rattle.register.specs.Changes.{written, CarriesOut}
+use Rattle.register.specs.Settled.{Acts}
+use Rattle.register.proofs.Settling.{acts}
+use Rattle.register.proofs.Running.{Held, held-none, held-next, held-counts, held-all}
 use Rattle.register.proofs.table.Register.run.Statement.{statement}
 use Rattle.register.proofs.table.Register.run.Tie as tie
 
 abbrev Inv-loop : tie.InvT-loop
-Inv-loop count self₀ steps limit refusals₀ values₀ settled₀ i₀ self refusals values settled i =
-    (i ≤ limit) × (record { register = self; refusals = refusals; values = values } ≡ ranFirst self₀ steps i) × AllSettled self settled
+Inv-loop count steps limit refusals₀ values₀ book₀ fit settled₀ i₀ refusals values book settled i =
+    (i ≤ limit) × Held (registerOf book₀) steps i book refusals values fit settled
 
 abbrev μ-loop : tie.MeasureT-loop
-μ-loop count self₀ steps limit refusals₀ values₀ settled₀ i₀ self refusals values settled i = limit - i
-
-in-batch-requires : tie.Need-in-batch-requires Inv-loop μ-loop
-in-batch-requires c κs = search needs
+μ-loop count steps limit refusals₀ values₀ book₀ fit settled₀ i₀ refusals values book settled i = limit - i
 
 loop-holds : tie.Need-loop-holds Inv-loop μ-loop
-unfolding ranFirst
-loop-holds c = (search needs, refl, none-settled _)
+unfolding fit
+loop-holds c = (search needs, held-none _ _ _ (c .fits2 .ensures) (c .before .before .before .before .before .before .before .before .before .before .book .ensures .1))
+
+-- a batch has 256 steps
+long : (s : tie.Start Inv-loop μ-loop) → length (s .args .t2) ≡ 256
+long s = omega arith
 
 -- in the loop i is below 256
 below : (c : tie.In-loop Inv-loop μ-loop) → c .before .loop .i < 256
-below c = omega (arith, c .loop-test .taken, c .before .before .in-batch .ensures)
+below c = omega arith
 
-mul-step : tie.Need-mul-step Inv-loop μ-loop
-mul-step c = omega (arith, below c)
+-- the step of a turn
+abbrev step : tie.In-loop Inv-loop μ-loop → Step
+step c = getD (c .before .before .before .before .before .before .before .before .before .before .before .before .before .before .args .t2) (c .before .loop .i) (Propose (office 0) (block 0) 0)
 
-array-copy-out-step : tie.Need-array-copy-out-step Inv-loop μ-loop
-array-copy-out-step c = below c
+-- its actor
+abbrev actor : tie.After-settled-base Inv-loop μ-loop → Actor
+actor c =
+    let at = c .before .before .place-of .result in
+    record { at = at; state = stateOf (c .before .before .before .before .before .before .loop .book) at; base = c .settled-base .result }
+
+acting : (c : tie.After-settled-base Inv-loop μ-loop) → Acts (c .before .before .before .before .before .before .loop .book) (step (c .before .before .before .before .before)) (actor c)
+acting c =
+    let held = c .before .before .before .before .before .before .loop .inv .1 in
+    acts _ _ _ _ (actor c) (c .before .before .before .actor-of .ensures) (c .before .before .place-of .ensures .0) (c .before .before .place-of .ensures .1) refl
+    (c .settled-base .ensures .0) (held .settled) (c .settled-base .ensures .1)
 
 judge-requires : tie.Need-judge-requires Inv-loop μ-loop
-unfolding whole
+unfolding chainNotarised notarised signed stage chain
 judge-requires c κs =
-    let at-loop-test = c .before .before .before .before .before .before .before .before .before .before .before .before .before in
-    at-loop-test .before .loop .inv .2
+    let a = acting (c .before .before .before .before .before .before .before .before .before .before .before) in
+    (held-counts (c .before .before .before .before .before .before .before .before .before .before .before .before .before .before .before .before .before .loop .inv .1), record { within = a .within; own = a .own; base = a .base })
 
-element-write-self : tie.Need-element-write-self Inv-loop μ-loop
-element-write-self c = c .before .before .judge .ensures .within .block
-
-mul-self : tie.Need-mul-self Inv-loop μ-loop
-mul-self c = omega (arith, c .before .before .judge .ensures .within .block)
-
-element-write-self-2 : tie.Need-element-write-self-2 Inv-loop μ-loop
-element-write-self-2 c = c .before .before .judge .ensures .within .block
-
-mul-self-2 : tie.Need-mul-self-2 Inv-loop μ-loop
-mul-self-2 c = omega (arith, c .before .before .judge .ensures .within .block)
-
-element-write-self-3 : tie.Need-element-write-self-3 Inv-loop μ-loop
-element-write-self-3 c = c .before .before .judge .ensures .within .block
-
-element-write-self-4 : tie.Need-element-write-self-4 Inv-loop μ-loop
-element-write-self-4 c = c .before .before .judge .ensures .within .message
-
-element-write-self-5 : tie.Need-element-write-self-5 Inv-loop μ-loop
-element-write-self-5 c = c .before .before .judge .ensures .within .message
-
-element-write-self-6 : tie.Need-element-write-self-6 Inv-loop μ-loop
-element-write-self-6 c = c .before .before .judge .ensures .within .message
-
-mul-self-3 : tie.Need-mul-self-3 Inv-loop μ-loop
-mul-self-3 c = omega (arith, c .before .before .judge .ensures .within .message)
-
-element-write-self-7 : tie.Need-element-write-self-7 Inv-loop μ-loop
-element-write-self-7 c = c .before .before .judge .ensures .within .message
-
-mul-self-4 : tie.Need-mul-self-4 Inv-loop μ-loop
-mul-self-4 c = omega (arith, c .before .before .judge .ensures .within .place)
-
-element-write-self-8 : tie.Need-element-write-self-8 Inv-loop μ-loop
-element-write-self-8 c = c .before .before .judge .ensures .within .place
-
-element-write-self-9 : tie.Need-element-write-self-9 Inv-loop μ-loop
-element-write-self-9 c = c .before .before .judge .ensures .within .ending
-
--- the turn in which the steps' changes are written
-abbrev turn : tie.After-settled-after Inv-loop μ-loop → tie.In-loop Inv-loop μ-loop
+-- the turn in which a step is judged
+abbrev turn : tie.After-judge Inv-loop μ-loop → tie.In-loop Inv-loop μ-loop
 turn c = c .before .before .before .before .before .before .before .before .before .before .before .before .before .before .before .before .before
 
-settled-after-requires : tie.Need-settled-after-requires Inv-loop μ-loop
-settled-after-requires c κs = search needs
-
-array-write-refusals : tie.Need-array-write-refusals Inv-loop μ-loop
-array-write-refusals c = below (turn c)
-
-mul-values : tie.Need-mul-values Inv-loop μ-loop
-mul-values c = omega (arith, below (turn c))
-
-array-write-values : tie.Need-array-write-values Inv-loop μ-loop
-array-write-values c = below (turn c)
-
-add-i : tie.Need-add-i Inv-loop μ-loop
-add-i c = omega (arith, below (turn c))
-
-loop-less : tie.Need-loop-less Inv-loop μ-loop
-loop-less c = omega (arith, turn c .loop-test .taken)
+-- the change carries the step out
+carried : (c : tie.After-judge Inv-loop μ-loop)
+    → CarriesOut (turn c .before .before .fits2 .result) (turn c .before .loop .book) (step (turn c)) (c .judge .result)
+carried c = c .judge .ensures (turn c .before .loop .book .offices) refl
 
 loop-again : tie.Need-loop-again Inv-loop μ-loop
-unfolding written whole stepAt
+unfolding written
 loop-again c =
-    let at-judge = c .before .before .before in
-    let at-loop = turn c .before in
-    let a = at-loop .before .before .args in (
-      omega (arith, turn c .loop-test .taken),
-      ran-next (a .t1) (at-loop .loop .self) (a .t2) (at-loop .loop .i) (at-loop .loop .refusals) (at-loop .loop .values) (at-judge .judge .result) (at-loop .loop .inv .1) (at-judge .judge .ensures .answer),
-      rw (c .settled-after .ensures) (all-settled-next (at-loop .loop .self) (at-loop .loop .settled) _ (at-judge .judge .result) (at-loop .loop .inv .2) (at-judge .judge .ensures .answer)),
+    let at = c .before .before .before .before in
+    let held = turn at .before .loop .inv .1 in (
+      omega (arith, turn at .loop-test .taken),
+      rw (c .settled-after .ensures, at .before .before .before .before .before .before .before .before .before .before .before .before .before .before .before .actor-of .ensures)
+          (held-next held _ (omega (arith, below (turn at), long (turn at .before .before .before .before .before .before .before .before .before .before .before .before .before .before))) (at .judge .result) (carried at) (below (turn at)) (λ fit. held-counts held fit .offices)),
     )
 
 returns : tie.Need-returns Inv-loop μ-loop
 returns c =
-    let end : c .before .loop .i ≡ min (c .before .before .before .args .count) 256 = omega (arith, c .loop-test .left, c .before .before .in-batch .ensures) in
-    rw end at (c .before .loop .inv .1)
+    let end : c .before .before .loop .i ≡ min (c .before .before .before .before .before .before .before .before .before .before .before .before .before .before .before .args .count) 256 = omega (arith, c .before .loop-test .left, c .before .before .before .before .before .before .before .before .before .before .before .before .before .before .in-batch .ensures) in
+    rw (c .register .ensures, ← end) (held-all _ (c .before .before .loop .inv .1) (c .before .before .before .before .before .before .before .before .before .before .before .before .before .book .ensures .0))
 
 pub run-spec : {M : Type 1} → statement M
 run-spec =
@@ -124,29 +90,36 @@ run-spec =
     (tie.spec
     Inv-loop
     μ-loop
-    in-batch-requires
+    (λ c κs. search needs)
+    (λ c κs. search needs)
+    (λ c κs. search needs)
     loop-holds
-    mul-step
-    array-copy-out-step
+    (λ c. omega (arith, below c))
+    (λ c. below c)
+    (λ c κs. search needs)
+    (λ c κs. search needs)
+    (λ c. c .place-of .ensures .1)
+    (λ c κs. search needs)
     judge-requires
-    element-write-self
-    mul-self
-    element-write-self-2
-    mul-self-2
-    element-write-self-3
-    element-write-self-4
-    element-write-self-5
-    element-write-self-6
-    mul-self-3
-    element-write-self-7
-    mul-self-4
-    element-write-self-8
-    element-write-self-9
-    settled-after-requires
-    array-write-refusals
-    mul-values
-    array-write-values
-    add-i
-    loop-less
+    (λ c. carried (c .before .before) .within .block)
+    (λ c. omega (arith, carried (c .before .before) .within .block))
+    (λ c. carried (c .before .before) .within .block)
+    (λ c. omega (arith, carried (c .before .before) .within .block))
+    (λ c. carried (c .before .before) .within .block)
+    (λ c. carried (c .before .before) .within .message)
+    (λ c. carried (c .before .before) .within .message)
+    (λ c. carried (c .before .before) .within .message)
+    (λ c. omega (arith, carried (c .before .before) .within .message))
+    (λ c. carried (c .before .before) .within .message)
+    (λ c. omega (arith, carried (c .before .before) .within .place))
+    (λ c. carried (c .before .before) .within .place)
+    (λ c. carried (c .before .before .before) .within .office)
+    (λ c κs. search needs)
+    (λ c. below (turn (c .before .before .before .before)))
+    (λ c. omega (arith, below (turn (c .before .before .before .before))))
+    (λ c. below (turn (c .before .before .before .before)))
+    (λ c. omega (arith, below (turn (c .before .before .before .before))))
+    (λ c. omega (arith, turn (c .before .before .before .before) .loop-test .taken))
     loop-again
+    (λ c κs. search needs)
     returns)

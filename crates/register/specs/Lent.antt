@@ -1,0 +1,72 @@
+-- A book as a function inside the crate is lent it: its single numbers by value, and some of its columns. A column that is not lent is empty here.
+-- Only contracts inside this crate cite these definitions.
+use Prim.Native.Nat.{ℕ, _≤_}
+use mathlib.Core.Bool.{Bool}
+use mathlib.Core.List.{List, []}
+use Rattle.register.specs.declared.table.OfficeState.{OfficeState}
+use Rattle.register.specs.declared.change.Scalars.{Scalars}
+use Rattle.register.specs.declared.book.Book.{Book}
+use Rattle.register.specs.Limits.{mostOffices, mostEpochs, mostBlocks, mostMessages}
+
+-- columns of blocks and of messages
+pub record BlockColumns : Type 0 where
+  pub parents : List ℕ
+  pub epochs : List ℕ
+  pub payloads : List ℕ
+
+pub record MessageColumns : Type 0 where
+  pub votes : List Bool
+  pub signers : List ℕ
+  pub about : List ℕ
+  pub places : List ℕ
+
+abbrev pub blocks : (parents epochs payloads : List ℕ) → BlockColumns
+blocks parents epochs payloads = record { parents = parents; epochs = epochs; payloads = payloads }
+
+abbrev pub noBlocks : BlockColumns
+noBlocks = blocks [] [] []
+
+abbrev pub messages : (votes : List Bool) → (signers about places : List ℕ) → MessageColumns
+messages votes signers about places = record { votes = votes; signers = signers; about = about; places = places }
+
+abbrev pub noMessages : MessageColumns
+noMessages = messages [] [] [] []
+
+-- the book of those single numbers and columns, in which the offices hold that
+abbrev pub wholeBook : Scalars → (leaders : List ℕ) → BlockColumns → MessageColumns → List OfficeState → Book
+wholeBook s leaders blocks messages offices =
+    record {
+      n = s .n;
+      trust = s .trust;
+      length = s .length;
+      leaders = leaders;
+      epoch = s .epoch;
+      last = s .last;
+      parents = blocks .parents;
+      epochs = blocks .epochs;
+      payloads = blocks .payloads;
+      count = s .count;
+      votes = messages .votes;
+      signers = messages .signers;
+      about = messages .about;
+      places = messages .places;
+      acted = s .acted;
+      offices = offices;
+    }
+
+-- the book as far as it is lent
+abbrev pub lentBook : Scalars → (leaders : List ℕ) → BlockColumns → MessageColumns → Book
+lentBook s leaders blocks messages = wholeBook s leaders blocks messages []
+
+-- single numbers that are in their ranges
+pub record Counts (n epochs epoch last count : ℕ) : Type 0 where
+  pub some : 1 ≤ n
+  pub offices : n ≤ mostOffices
+  pub schedule : epochs ≤ mostEpochs
+  pub first : 1 ≤ epoch
+  pub current : epoch ≤ epochs
+  pub blocks : last ≤ mostBlocks
+  pub messages : count ≤ mostMessages
+
+abbrev pub Counted : Scalars → Type 0
+Counted s = Counts (s .n) (s .length) (s .epoch .0) (s .last .0) (s .count)
