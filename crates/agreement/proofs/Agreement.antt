@@ -1,68 +1,83 @@
 -- The theorems of specs/Claim.antt.
-use Prim.Native.Nat.{ℕ, zero, suc, _<_, _≤_}
-use mathlib.Core.Path.{_≡_, refl, ap, _∙_, subst, subst⁻¹}
+use Prim.Native.Nat.{ℕ, _<_, _≤_}
+use mathlib.Core.Path.{_≡_, refl, sym, ap, _∙_, subst, subst⁻¹}
 use mathlib.Core.Bool.{true}
 use mathlib.Core.List.{List, [], _∷_}
 use native.Mathlib.Omega.{arith}
-use lib.ListN.{length}
+use lib.ListN.{length, take, drop, take-append-drop}
 use Rattle.words.specs.Tests.{member}
 use Rattle.register.specs.declared.step.Step.{Step}
 use Rattle.register.specs.declared.table.Register.{Register}
+use Rattle.register.specs.declared.book.Book.{Book}
+use Rattle.register.specs.Books.{bookOf}
+use Rattle.register.specs.Steps.{bookRule, stepRule}
+use Rattle.register.specs.Runs.{afterSteps, Run, opened, moment}
+use Rattle.register.proofs.Typing.{step-book}
+use Rattle.register.proofs.FitSteps.{ranges-step}
+use Rattle.register.proofs.Running.{after-append}
 use Rattle.register.specs.Tables.{parentOf}
 use Rattle.register.specs.Chains.{chain, chainLength, begins, chainNotarised}
 use Rattle.register.proofs.Chains.{parent-le, chain-genesis, chain-step, notarised-on, on-own-chain}
 use Rattle.register.proofs.Finalising.{Consecutive}
 use Rattle.register.proofs.Growth.{Grows, grows-refl, grows-trans, chain-same, length-kept, chain-notarised-kept, consecutive-kept}
-use Rattle.agreement.specs.Moments.{Run, opened, after, afterFirst, moment}
-use Rattle.agreement.specs.Claim.{finalChain, Trusted, Notarised, Begins, Agreement}
+use Rattle.agreement.specs.Claim.{chainOf, finalChain, Trusted, Notarised, Begins, Agreement}
 use Rattle.agreement.proofs.Safety.{Finalised, genesis, middle, Safe, Lawful, signed-le}
 use Rattle.agreement.proofs.Preservation.{safe-step}
 use Rattle.agreement.proofs.Steps.{lawful}
 use Rattle.agreement.proofs.Conflict.{shared-signer, middle-on-chain}
 use Rattle.agreement.proofs.Opening.{safe-opened}
 
+-- every step from a safe book gives a safe book
+safe-next : (r : Register) (step : Step) → Safe (bookOf r) → Safe (bookOf (stepRule r step .register)) × Grows (bookOf r) (bookOf (stepRule r step .register))
+safe-next r step safe =
+    let law : Lawful (bookOf r) (bookRule (bookOf r) step .book) = lawful (bookOf r) step (safe .ranges) in
+    subst⁻¹ (λ (b : Book). Safe b × Grows (bookOf r) b) (step-book r step)
+    (safe-step safe (ranges-step (bookOf r) step (safe .ranges)) law, law .grows)
+
+-- so does every list of steps, and the book grows
+pub safe-after : (steps : List Step) (r : Register) → Safe (bookOf r)
+    → Safe (bookOf (afterSteps r steps)) × Grows (bookOf r) (bookOf (afterSteps r steps))
+unfolding afterSteps
+safe-after [] r safe = (safe, grows-refl (bookOf r))
+safe-after (x ∷ xs) r safe =
+    let next = safe-next r x safe in
+    let end = safe-after xs (stepRule r x .register) (next .0) in
+    (end .0, grows-trans (next .1) (end .1))
+
 -- every moment is safe
-safe-after : (steps : List Step) (i : ℕ) (r : Register) → Safe r → Safe (afterFirst r steps i)
-unfolding afterFirst
-safe-after steps zero r safe = safe
-safe-after [] (suc i) r safe = safe
-safe-after (x ∷ xs) (suc i) r safe = safe-after xs i (after r x) (safe-step safe (lawful r x safe))
-
--- from the first moment to the last the register grows
-grows-all : (steps : List Step) (r : Register) → Safe r → Grows r (afterFirst r steps (length steps))
-unfolding afterFirst
-grows-all [] r safe = grows-refl r
-grows-all (x ∷ xs) r safe =
-    let step : Lawful r (after r x) = lawful r x safe in
-    grows-trans (step .grows) (grows-all xs (after r x) (safe-step safe step))
-
--- and so it does from every moment on
-grows-from : (steps : List Step) (i : ℕ) (r : Register) → Safe r → Grows (afterFirst r steps i) (afterFirst r steps (length steps))
-unfolding afterFirst
-grows-from steps zero r safe = grows-all steps r safe
-grows-from [] (suc i) r safe = grows-refl r
-grows-from (x ∷ xs) (suc i) r safe = grows-from xs i (after r x) (safe-step safe (lawful r x safe))
-
-pub safe-moment : (run : Run) (i : ℕ) → Safe (moment run i)
+pub safe-moment : (run : Run) (i : ℕ) → Safe (bookOf (moment run i))
 unfolding moment
-safe-moment run i = safe-after (run .steps) i (opened run) (safe-opened run)
+safe-moment run i = safe-after (take i (run .steps)) (opened run) (safe-opened run) .0
 
--- the last moment of a run
+-- the register after the whole list
 last : Run → Register
-last run = moment run (length (run .steps))
+last run = afterSteps (opened run) (run .steps)
 
-grows-moment : (run : Run) (i : ℕ) → Grows (moment run i) (last run)
+safe-last : (run : Run) → Safe (bookOf (last run))
+unfolding last
+safe-last run = safe-after (run .steps) (opened run) (safe-opened run) .0
+
+-- the steps that are left lead from every moment to the last
+to-last : (run : Run) (i : ℕ) → afterSteps (moment run i) (drop i (run .steps)) ≡ last run
 unfolding moment last
-grows-moment run i = grows-from (run .steps) i (opened run) (safe-opened run)
+to-last run i =
+    sym (after-append (opened run) (take i (run .steps)) (drop i (run .steps)))
+    ∙ ap (afterSteps (opened run)) (take-append-drop i (run .steps))
+
+-- from every moment on the book grows
+grows-moment : (run : Run) (i : ℕ) → Grows (bookOf (moment run i)) (bookOf (last run))
+grows-moment run i =
+    subst (λ (r : Register). Grows (bookOf (moment run i)) (bookOf r)) (to-last run i)
+    (safe-after (drop i (run .steps)) (moment run i) (safe-moment run i) .1)
 
 -- a block other than genesis whose chain is notarised has been made
-notarised-le : {r : Register} (q e : ℕ) → Safe r → 0 < e → chainNotarised r q e ≡ true → e ≤ r .last .0
+notarised-le : {r : Book} (q e : ℕ) → Safe r → 0 < e → chainNotarised r q e ≡ true → e ≤ r .last .0
 notarised-le {r} q e safe pos n =
     let on : _ = notarised-on r q e e n (on-own-chain r e pos) in
     signed-le safe (shared-signer safe q q e e pos pos on on .2)
 
 -- the middle one of three consecutive blocks of one moment is on every notarised chain of another that is at least as long
-on-other : {r s end : Register} → Grows r end → Grows s end → Safe s → Safe end → {p b c d : ℕ} (q e : ℕ) → b ≤ r .last .0
+on-other : {r s end : Book} → Grows r end → Grows s end → Safe s → Safe end → {p b c d : ℕ} (q e : ℕ) → b ≤ r .last .0
     → Consecutive r p b c d → 0 < e → chainNotarised s q e ≡ true → chainLength r c ≤ chainLength s e → member c (chain s e) ≡ true
 on-other {r} {s} {end} gr gs safe safe-end {p} {b} {c} {d} q e l three pos n long =
     let le : e ≤ s .last .0 = notarised-le q e safe pos n in
@@ -72,9 +87,9 @@ on-other {r} {s} {end} gr gs safe safe-end {p} {b} {c} {d} q e l three pos n lon
     (omega (arith, length-kept gr c lc, length-kept gs e le)))
 
 -- a final chain of one moment and a notarised chain of another, by how the final block became final
-agreed : {r s end : Register} → Grows r end → Grows s end → Safe s → Safe end → {p c : ℕ} (q e : ℕ) → Finalised r p c
+agreed : {r s end : Book} → Grows r end → Grows s end → Safe s → Safe end → {p c : ℕ} (q e : ℕ) → Finalised r p c
     → chainNotarised s q e ≡ true → length (chain r c) ≤ length (chain s e) → begins (chain r c) (chain s e) ≡ true
-unfolding begins chainLength
+unfolding begins
 agreed {r} {s} gr gs safe safe-end q e (genesis z) n long =
     subst⁻¹ (λ (b : List ℕ). begins b (chain s e) ≡ true) (ap (chain r) z ∙ chain-genesis r) refl
 agreed {r} {s} gr gs safe safe-end {p} {c} q e (middle b d l three) n long =
@@ -83,7 +98,7 @@ agreed {r} {s} gr gs safe safe-end {p} {c} q e (middle b d l three) n long =
     subst⁻¹ (λ (b : List ℕ). begins b (chain s e) ≡ true) own (on-other gr gs safe safe-end q e l three (omega arith) n long)
 
 pub agreement : Agreement
-unfolding Agreement Trusted Notarised Begins finalChain last
+unfolding Agreement Trusted Notarised Begins finalChain chainOf
 agreement run i j p q e case =
-    agreed (grows-moment run i) (grows-moment run j) (safe-moment run j) (safe-moment run (length (run .steps))) (q .0) (e .0)
+    agreed (grows-moment run i) (grows-moment run j) (safe-moment run j) (safe-last run) (q .0) (e .0)
     (safe-moment run i .final (p .0) (case .finalist)) (case .notarised) (case .long)

@@ -10,9 +10,9 @@ use Rattle.words.specs.Tests.{both, member}
 use Rattle.words.specs.Sums.{tally, unit, weigh}
 use Rattle.words.proofs.Tests.{both-right, either-cases, any-at}
 use Rattle.words.proofs.Sums.{quorum, always, tally-always}
-use Rattle.register.specs.declared.table.Register.{Register}
+use Rattle.register.specs.declared.book.Book.{Book}
 use Rattle.register.specs.Tables.{trusted, parentOf, epochOf}
-use Rattle.register.specs.Views.{inView, says, signed, signers, notarised}
+use Rattle.register.specs.Views.{inView, says, signed, notarised}
 use Rattle.register.specs.Chains.{chain, chainLength, chainNotarised}
 use Rattle.register.proofs.Chains.{length-step, on-own-chain, on-longer-chain, notarised-on, Ancestor, ancestor}
 use Rattle.quorum.proofs.Enough.{enough-least}
@@ -20,19 +20,19 @@ use Rattle.register.proofs.Finalising.{Consecutive}
 use Rattle.agreement.proofs.Safety.{Signature, Ordered, same, before, after, Safe, signature}
 
 -- a signature in a view is one of the history
-in-history : (r : Register) (q h b : ℕ) → signed r q h b ≡ true → Signature r h b
+in-history : (r : Book) (q h b : ℕ) → signed r q h b ≡ true → Signature r h b
 unfolding signed
 in-history r q h b t =
     let f : (m : ℕ) × (m < r .count) × (both (inView r q m) (says r h b m) ≡ true) = any-at _ (r .count) t in
     signature r h b (f .0) (f .1) (both-right _ _ (f .2))
 
 -- a notarised block other than genesis has signers of two thirds of the offices
-two-thirds : (r : Register) (q b : ℕ) → 0 < b → notarised r q b ≡ true → 2 * r .n ≤ 3 * tally (r .n) (λ h. signed r q h b)
-unfolding notarised signers
+two-thirds : (r : Book) (q b : ℕ) → 0 < b → notarised r q b ≡ true → 2 * r .n ≤ 3 * tally (r .n) (λ h. signed r q h b)
+unfolding notarised
 two-thirds r q b pos t =
     ⊎-elim (λ z. absurd (omega (arith, eqb-true b 0 z))) (λ e. enough-least _ (r .n) e) (either-cases (eqb b 0) _ t)
 
-module _ {r : Register} (safe : Safe r) where
+module _ {r : Book} (safe : Safe r) where
   -- two notarised blocks share a trusted signer
   pub shared-signer : (p q x y : ℕ) → 0 < x → 0 < y → notarised r p x ≡ true → notarised r q y ≡ true
       → (h : ℕ) × (trusted r h ≡ true) × Signature r h x × Signature r h y

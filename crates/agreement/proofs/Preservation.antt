@@ -7,15 +7,16 @@ use native.Mathlib.Omega.{arith}
 use native.Mathlib.Decide.{decLt}
 use Rattle.words.specs.Sums.{tally}
 use Rattle.words.proofs.Tests.{clash}
-use Rattle.register.specs.declared.table.Sent.{Sent}
-use Rattle.register.specs.declared.table.Register.{Register}
-use Rattle.register.specs.Tables.{trusted, acted, made, parentOf, epochOf, sentOf, signerOf, blockOf, finalOf}
+use Rattle.register.specs.declared.book.Book.{Book}
+use Rattle.register.specs.Tables.{Content, trusted, acted, parentOf, epochOf, contentOf, signerOf, aboutOf, finalOf}
 use Rattle.register.specs.Chains.{chainLength, chainNotarised}
+use Rattle.register.proofs.Accepted.{trusted-below}
 use Rattle.register.proofs.Chains.{parent-le}
-use Rattle.register.proofs.Growth.{Grows, trusted-kept, made-grows, parent-kept, epoch-kept, length-kept, chain-notarised-kept, consecutive-kept}
+use Rattle.register.proofs.Ranges.{Ranges}
+use Rattle.register.proofs.Growth.{Grows, trusted-kept, parent-kept, epoch-kept, length-kept, chain-notarised-kept, consecutive-kept}
 use Rattle.agreement.proofs.Safety.{Signature, Vouched, Before, Ordered, same, before, after, Finalised, genesis, middle, Safe, Signing, News, Clock, still, later, Lawful, signed-le, longest-notarised, longest-most}
 
-module _ {r s : Register} (safe : Safe r) (step : Lawful r s) where
+module _ {r s : Book} (safe : Safe r) (ranges : Ranges s) (step : Lawful r s) where
   -- a signature of the history after the step: an old one, or a trusted office signs now, by the newest message
   Classified : ℕ → ℕ → ℕ → Type 0
   Classified m h x = Signature r h x ⊎ ((m ≡ r .count) × Signing r s h x)
@@ -29,18 +30,18 @@ module _ {r s : Register} (safe : Safe r) (step : Lawful r s) where
 
       old : m < r .count → Signature r h x
       old l =
-          let e : sentOf s m ≡ sentOf r m = step .grows .messages m l in
+          let e : contentOf s m ≡ contentOf r m = step .grows .messages m l in
           record {
             message = m;
             sent = l;
-            signer = ap (λ (y : Sent). y .signer .0) (sym e) ∙ sg .signer;
-            about = ap (λ (y : Sent). y .block .0) (sym e) ∙ sg .about;
+            signer = ap (λ (y : Content). y .signer .0) (sym e) ∙ sg .signer;
+            about = ap (λ (y : Content). y .about .0) (sym e) ∙ sg .about;
           }
 
       new : (m < r .count → ⊥) → News r s h x → Signature r h x ⊎ ((m ≡ r .count) × Signing r s h x)
-      new past w = ⊎-elim (λ o. inl o) (λ n. inr (omega (arith, sg .sent, step .one), n)) (w .signed t)
+      new past w = ⊎-elim (λ o. inl o) (λ n. inr (omega (arith, sg .sent, step .one), n)) (w t)
 
-      by : Dec (m < r .count) → (m < r .count) ⊎ News r s (signerOf s m) (blockOf s m)
+      by : Dec (m < r .count) → (m < r .count) ⊎ News r s (signerOf s m) (aboutOf s m)
           → Signature r h x ⊎ ((m ≡ r .count) × Signing r s h x)
       by (yes l) w = inl (old l)
       by (no l) (inl k) = absurd (l k)
@@ -66,7 +67,7 @@ module _ {r s : Register} (safe : Safe r) (step : Lawful r s) where
       passed v e (later c) = omega (arith, v .past)
 
       marked : Vouched r h x → epochOf s x ≡ epochOf r x → epochOf s x ≡ s .epoch .0 → Clock r s → acted s h ≡ true
-      marked v e now (still c k) = k h (v .marked (omega arith))
+      marked v e now (still c k) = k h (omega (arith, trusted-below r h t, safe .ranges .counts .offices)) (v .marked (omega arith))
       marked v e now (later c) = absurd (omega (arith, v .past))
 
   -- what a signature that is made now says
@@ -122,18 +123,12 @@ module _ {r s : Register} (safe : Safe r) (step : Lawful r s) where
   ordered-all h x y t sx sy (inl ox) (inr ny) = before (before-new h x y t ox (ny .1))
   ordered-all h x y t sx sy (inr nx) (inl oy) = after (before-new h y x t oy (nx .1))
   ordered-all h x y t sx sy (inr nx) (inr ny) =
-      same (sym (sx .about) ∙ ap (blockOf s) (nx .0 ∙ sym (ny .0)) ∙ sy .about)
+      same (sym (sx .about) ∙ ap (aboutOf s) (nx .0 ∙ sym (ny .0)) ∙ sy .about)
 
   vouched-all : (h x m : ℕ) → trusted r h ≡ true → Classified m h x → Vouched s h x
   unfolding Classified
   vouched-all h x m t (inl o) = vouched-old h x t o
   vouched-all h x m t (inr n) = vouched-new h x (n .1)
-
-  about-all : (m : ℕ) → (m < r .count) ⊎ News r s (signerOf s m) (blockOf s m) → made s (blockOf s m) ≡ true
-  about-all m (inl l) =
-      subst⁻¹ (λ (y : Sent). made s (y .block .0) ≡ true) (step .grows .messages m l)
-      (made-grows (step .grows) (blockOf r m) (safe .about m l))
-  about-all m (inr w) = w .about
 
   finalised-old : {p c : ℕ} → Finalised r p c → Finalised s p c
   finalised-old (genesis e) = genesis e
@@ -149,12 +144,10 @@ module _ {r s : Register} (safe : Safe r) (step : Lawful r s) where
       let g : Grows r s = step .grows in
       let was : (q : ℕ) → trusted s q ≡ true → trusted r q ≡ true = λ q t. sym (trusted-kept g q) ∙ t in
       record {
-        sizes = step .sizes;
-        offices = omega (arith, g .n, safe .offices);
+        ranges = ranges;
         few =
             subst⁻¹ (λ (n : ℕ). 3 * tally n (λ q. not (trusted s q)) < n) (g .n)
             (subst⁻¹ (λ (t : ℕ → Bool). 3 * tally (r .n) (λ q. not (t q)) < r .n) (fun-ext (trusted-kept g)) (safe .few));
-        about = λ m l. about-all m (step .news m l);
         vouched = λ h x t sg. vouched-all h x (sg .message) (was h t) (classified h x (was h t) sg);
         ordered = λ h x y t sx sy.
             ordered-all h x y (was h t) sx sy (classified h x (was h t) sx) (classified h y (was h t) sy);

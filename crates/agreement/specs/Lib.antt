@@ -1,3 +1,2 @@
--- The agreement of final chains. Read in this order.
-pub mod Moments
+-- The agreement of final chains; its runs and moments are those of `register`.
 pub mod Claim
