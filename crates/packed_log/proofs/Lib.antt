@@ -1,22 +1,16 @@
--- The laws of the definitions in specs/, by topic; OnePackedForm proves the claims of specs/Claims.
+-- The laws of the definitions in specs/, by topic; Claims proves the claims of specs/Claims.
+pub mod Judging
 pub mod BitRows
 pub mod BitsLaws
 pub mod Windows
-pub mod WidthLaws
 pub mod RowLaws
-pub mod OpeningFields
-pub mod OpeningTests
+pub mod OpeningLaws
 pub mod WritingLaws
-pub mod OpeningWrites
-pub mod Unrefused
 pub mod Standing
-pub mod ItemsReadBack
-pub mod PassLaws
-pub mod StepsReadBack
+pub mod ItemLaws
 pub mod OpeningsReadBack
 pub mod LogsReadBack
-pub mod WriterCalls
-pub mod OnePackedForm
+pub mod Claims
 pub mod MarkedCases
 -- What the walks of a reader's methods share.
 pub mod ReaderLaws

@@ -1,23 +1,60 @@
--- Whole logs: the packed form as a row of bits, a log with that row reads as its opening and steps, and back.
-use Prim.Native.Nat.{ℕ, _+_, _*_, _/_, _≤_}
-use mathlib.Core.Path.{_≡_, sym, ap, _∙_}
+-- Whole logs: steps, one behind the other, with the end behind them, and the packed form; what stands in a log is read there, and back.
+use Prim.Native.Nat.{ℕ, _+_, _≤_, _*_, _/_}
+use mathlib.Core.Path.{_≡_, refl, sym, ap, _∙_}
 use mathlib.Core.Bool.{Bool, false}
-use mathlib.Core.List.{List, _++_, append-assoc}
-use native.Mathlib.Nat.{zero-add}
-use native.Mathlib.Omega.{arith}
+use mathlib.Core.List.{List, [], _∷_, _++_, append-assoc}
+use native.Mathlib.Nat.{add-zero, add-assoc, zero-add}
 use lib.ListN.{length, drop, length-append, length-replicate}
+use Rattle.words.proofs.Tests.{either-false-left, either-false-right}
+use Rattle.register.specs.declared.step.Step.{Step}
+use Rattle.packed_log.specs.declared.item.Read.{Read}
+use Rattle.packed_log.specs.Bits.{bits}
+use Rattle.packed_log.specs.Rows.{rowOf}
+use Rattle.packed_log.specs.Items.{read, itemAt}
+use Rattle.packed_log.specs.Writing.{stepBits, endBits, wide, openingBits}
+use Rattle.packed_log.specs.Logs.{stepsBits, anyWide, ReadsFrom, Case, bodyBits, packed, Reads}
+use Rattle.packed_log.proofs.Standing.{Stands, stands-behind}
+use Rattle.packed_log.proofs.ItemLaws.{step-reads, end-reads, Found, item-found}
+use native.Mathlib.Omega.{arith}
 use Rattle.quorum.specs.Opening.{openingRefusal}
 use Rattle.register.specs.Opening.{fresh}
 use Rattle.packed_log.specs.declared.opening.Opening.{Opening}
-use Rattle.packed_log.specs.Bits.{bits}
 use Rattle.packed_log.specs.Openings.{opened, openingIn}
-use Rattle.packed_log.specs.Writing.{openingBits, endBits}
-use Rattle.packed_log.specs.Logs.{Case, bodyBits, packed, anyWide, Reads}
 use Rattle.packed_log.proofs.BitRows.{length-toBits}
 use Rattle.packed_log.proofs.BitsLaws.{bits-bytes}
-use Rattle.packed_log.proofs.Standing.{Stands, stands-behind}
-use Rattle.packed_log.proofs.StepsReadBack.{restBits, steps-read, steps-stand}
 use Rattle.packed_log.proofs.OpeningsReadBack.{opening-reads, opening-stands}
+use Rattle.packed_log.specs.declared.item.Item.the-variants as items
+
+-- the bits of some steps from position p on, and of the end behind them
+abbrev pub restBits : (ss : List Step) → (p : ℕ) → List Bool
+restBits ss p = stepsBits ss ++ endBits (p + length (stepsBits ss))
+
+-- one step more in front of them
+rest-step : (s : Step) (ss : List Step) (p next : ℕ) → next ≡ p + length (stepBits s) → restBits (s ∷ ss) p ≡ stepBits s ++ restBits ss next
+unfolding stepsBits
+rest-step s ss p next e = rw (e, length-append, add-assoc, append-assoc)
+
+-- steps within the widths that stand at a position with the end behind them are read there
+pub steps-read : (log : List ℕ) → length log ≤ 65536 → (p : ℕ) (ss : List Step) → anyWide ss ≡ false
+    → Stands log p (restBits ss p) → ReadsFrom log p ss
+unfolding ReadsFrom stepsBits anyWide
+steps-read log small p [] narrow h = ap (λ (r : Read). r .item) (end-reads log p small (rw add-zero at h))
+steps-read log small p (s ∷ ss) narrow h =
+    let next : ℕ = p + length (stepBits s) in
+    let narrow-one : wide (rowOf s) ≡ false = either-false-left (wide (rowOf s)) (anyWide ss) narrow in
+    let narrow-rest : anyWide ss ≡ false = either-false-right (wide (rowOf s)) (anyWide ss) narrow in
+    let stands : Stands log p (stepBits s ++ restBits ss next) = h ∙ rest-step s ss p next refl in
+    let one : itemAt log p ≡ read (items.Step s) next = step-reads log p s (restBits ss next) small narrow-one stands in
+    rw one (refl, steps-read log small next ss narrow-rest (stands-behind log p (stepBits s) (restBits ss next) stands))
+
+-- steps that are read with the end behind them stand there
+pub steps-stand : (log : List ℕ) (p : ℕ) (ss : List Step) → ReadsFrom log p ss → Stands log p (restBits ss p)
+unfolding ReadsFrom stepsBits Found
+steps-stand log p [] h = rw add-zero (rw h at (item-found log p))
+steps-stand log p (s ∷ ss) h =
+    let next : ℕ = itemAt log p .next in
+    let found : Stands log p (stepBits s ++ drop next (bits log)) × (next ≡ p + length (stepBits s)) = rw (h .0) at (item-found log p) in
+    found .0 ∙ rw (steps-stand log next ss (h .1)) (sym (rest-step s ss p next (found .1)))
 
 -- the row of an opening with steps and the end
 abbrev pub caseBits : Case → List Bool

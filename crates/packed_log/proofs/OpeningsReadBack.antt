@@ -9,7 +9,7 @@ use borrow.Author.Tests.{ltb-false, le-ltb, not-false}
 use lib.Dec.{eqb, eqb·suc-zero}
 use lib.ListN.{length, getD, take, drop, length-append}
 use lib.Seq.{take-at}
-use Rattle.quorum.specs.Opening.{untrusted, stray, openingRefusal}
+use Rattle.quorum.specs.Opening.{untrusted, tooMany, stray, openingRefusal}
 use Rattle.words.specs.Tests.{choose, both, between}
 use Rattle.words.specs.Digits.{digit, fill}
 use Rattle.words.proofs.Digits.{digit-lt, digit-fill, fill-ext}
@@ -17,7 +17,10 @@ use Rattle.words.specs.Refusals.{first}
 use Rattle.words.proofs.Refusals.{positive, Clear, first-clear}
 use Rattle.words.proofs.Sums.{tally-ext}
 use Rattle.register.specs.declared.table.Register.{Register}
-use Rattle.register.specs.Opening.{leaderTable, blank, fresh, opening}
+use Rattle.register.specs.declared.book.Book.{Book}
+use Rattle.register.specs.Books.{bookOf}
+use Rattle.register.specs.Opening.{leaderTable, blank, freshBook, fresh, opening}
+use Rattle.register.proofs.Typing.{book-register}
 use Rattle.packed_log.specs.Bits.{toBits, bits, field}
 use Rattle.packed_log.specs.Items.{left}
 use Rattle.packed_log.specs.Openings.{countIn, trustIn, lengthIn, leadersAt, thereIn, openingTestsIn, openingRefusalIn, opened, openedBy, openingIn}
@@ -25,9 +28,7 @@ use Rattle.packed_log.specs.Writing.{trustBits, leaderBits, openingBits}
 use Rattle.packed_log.proofs.BitRows.{bit-row}
 use Rattle.packed_log.proofs.BitsLaws.{field-lt}
 use Rattle.packed_log.proofs.WritingLaws.{length-trust, length-leaders, length-opening}
-use Rattle.packed_log.proofs.Unrefused.{Accepted, accepted}
-use Rattle.packed_log.proofs.OpeningFields.{length-leadersAt}
-use Rattle.packed_log.proofs.OpeningTests.{there-most}
+use Rattle.packed_log.proofs.OpeningLaws.{Accepted, accepted, length-leadersAt, there-most}
 use Rattle.packed_log.proofs.Standing.{Stands, left-stands, stands-behind, value-stands, value-behind, stands-field}
 
 -- trust bits that stand at a position are read there
@@ -106,7 +107,7 @@ record Parts (log : List ℕ) (n trust : ℕ) (schedule : List ℕ) : Type 0 whe
 -- the parts of an opening that stands at the log's start are read there
 parts-read : (log : List ℕ) (n trust : ℕ) (schedule : List ℕ) (u : List Bool) → Accepted n trust schedule
     → Stands log 0 (openingBits n trust schedule ++ u) → Parts log n trust schedule
-unfolding openingBits countIn trustIn lengthIn left
+unfolding openingBits trustIn
 parts-read log n trust schedule u tests h =
     let k : ℕ = length schedule in
     let offices : (1 ≤ n) × (n ≤ 32) = tests .count in
@@ -130,7 +131,7 @@ parts-read log n trust schedule u tests h =
 -- where the parts of an opening that is not refused are read from a log that is not too long, nothing is refused
 parts-clear : (log : List ℕ) (n trust : ℕ) (schedule : List ℕ) → length log ≤ 65536
     → Accepted n trust schedule → Parts log n trust schedule → first (openingTestsIn log n (length schedule)) ≡ 0
-unfolding thereIn left first choose
+unfolding thereIn first choose
 parts-clear log n trust schedule small tests parts =
     let k : ℕ = length schedule in
     let there : thereIn log n k ≡ k = omega (arith, parts .room) in
@@ -153,7 +154,7 @@ parts-clear log n trust schedule small tests parts =
 pub opening-reads : (log : List ℕ) (n trust : ℕ) (schedule : List ℕ) (u : List Bool) → length log ≤ 65536
     → openingRefusal n trust schedule ≡ 0 → Stands log 0 (openingBits n trust schedule ++ u)
     → openingIn log ≡ opened (fresh n trust schedule) 0 (length (openingBits n trust schedule))
-unfolding openingIn openedBy openingRefusalIn fresh choose
+unfolding openingIn openedBy openingRefusalIn freshBook fresh choose
 opening-reads log n trust schedule u small h stands =
     let tests : Accepted n trust schedule = accepted n trust schedule h in
     let parts : Parts log n trust schedule = parts-read log n trust schedule u tests stands in
@@ -172,7 +173,7 @@ opening-reads log n trust schedule u small h stands =
 -- an opening whose parts are read at the log's start stands there
 parts-stand : (log : List ℕ) (n trust : ℕ) (schedule : List ℕ) → Parts log n trust schedule
     → Stands log 0 (openingBits n trust schedule ++ drop (15 + n + 5 * length schedule) (bits log))
-unfolding openingBits countIn trustIn lengthIn
+unfolding openingBits trustIn
 parts-stand log n trust schedule parts =
     let k : ℕ = length schedule in
     let bit : (q : ℕ) → q < n → field log (6 + q) 1 ≡ digit 2 trust q = word-digit log 6 n trust (parts .word) in
@@ -198,31 +199,50 @@ same-schedule : (s t : List ℕ) → length s ≡ length t → leaderTable s ≡
 unfolding leaderTable
 same-schedule s t long h = sym (take-at s _ (length t) long) ∙ ap (take (length t)) h ∙ take-at t _ (length t) refl
 
--- where nothing is refused, the log has the bits of all parts
-parts-room : (log : List ℕ) (n k : ℕ) → first (openingTestsIn log n k) ≡ 0 → 15 + n + 5 * k ≤ 8 * length log
-unfolding Clear positive both thereIn left
-parts-room log n k h =
+-- what the tests of an opening that is read say where nothing is refused
+record Fine (log : List ℕ) (n k : ℕ) : Type 0 where
+  offices : between 1 32 n ≡ true
+  epochs : between 1 256 k ≡ true
+  all : thereIn log n k ≡ k
+  leaders : stray n (leadersAt log (15 + n) k) ≡ false
+  third : tooMany (untrusted n (trustIn log n)) n ≡ false
+  room : 15 + n + 5 * k ≤ 8 * length log
+
+fine : (log : List ℕ) (n k : ℕ) → first (openingTestsIn log n k) ≡ 0 → Fine log n k
+unfolding Clear positive both
+fine log n k h =
     let tests : Clear (openingTestsIn log n k) = first-clear (openingTestsIn log n k) refl h in
-    omega (arith, ltb-false (left log 6) (n + 9) (tests .1 .1 .1 .0), ltb-false (thereIn log n k) k (tests .1 .1 .1 .1 .1 .1 .0))
+    let most : k ≤ thereIn log n k = ltb-false (thereIn log n k) k (tests .1 .1 .1 .1 .1 .1 .0) in
+    let all : thereIn log n k ≡ k = omega (arith, there-most log n k) in
+    record {
+      offices = not-false (between 1 32 n) (tests .1 .1 .0);
+      epochs = not-false (between 1 256 k) (tests .1 .1 .1 .1 .0);
+      all = all;
+      leaders = rw all at (tests .1 .1 .1 .1 .1 .0);
+      third = tests .1 .1 .1 .1 .1 .1 .1 .0;
+      room = omega (arith, there-most log n k, ltb-false (left log 6) (n + 9) (tests .1 .1 .1 .0));
+    }
 
 -- the parts of the opening that a register is opened by are those that were read
 register-parts : (log : List ℕ) (n trust : ℕ) (schedule : List ℕ) → openingRefusalIn log ≡ 0
     → fresh (countIn log) (trustIn log (countIn log)) (leadersAt log (15 + countIn log) (lengthIn log (countIn log))) ≡ fresh n trust schedule
     → Parts log n trust schedule
-unfolding openingRefusalIn fresh blank trustIn
+unfolding openingRefusalIn fresh freshBook blank trustIn
 register-parts log n trust schedule none same =
     let leaders : List ℕ = leadersAt log (15 + countIn log) (lengthIn log (countIn log)) in
-    let count : countIn log ≡ n = ap (λ (r : Register). r .n) same in
-    let long : length leaders ≡ length schedule = ap (λ (r : Register). r .length) same in
+    let books : freshBook (countIn log) (trustIn log (countIn log)) leaders ≡ freshBook n trust schedule =
+    sym (book-register _) ∙ ap bookOf same ∙ book-register _ in
+    let count : countIn log ≡ n = ap (λ (b : Book). b .n) books in
+    let long : length leaders ≡ length schedule = ap (λ (b : Book). b .length) books in
     let epochs : lengthIn log n ≡ length schedule = rw (length-leadersAt, count) at long in
-    let table : leaderTable leaders ≡ leaderTable schedule = ap (λ (r : Register). r .leaders) same in
-    let word : fill 2 n (digit 2 (trustIn log n)) ≡ fill 2 n (digit 2 trust) = rw count at (ap (λ (r : Register). r .trust) same) in
+    let table : leaderTable leaders ≡ leaderTable schedule = ap (λ (b : Book). b .leaders) books in
+    let word : fill 2 n (digit 2 (trustIn log n)) ≡ fill 2 n (digit 2 trust) = rw count at (ap (λ (b : Book). b .trust) books) in
     record {
       count = count;
       word = sym (fill-again n (λ q. field log (6 + q) 1) (λ q. field-lt log (6 + q) 1)) ∙ word;
       epochs = epochs;
       leaders = rw (count, epochs) at (same-schedule leaders schedule long table);
-      room = rw (count, epochs) at (parts-room log (countIn log) (lengthIn log (countIn log)) none);
+      room = rw (count, epochs) at (fine log (countIn log) (lengthIn log (countIn log)) none .room);
     }
 
 -- the opening that is read at the log's start stands there, up to the position behind it
@@ -241,16 +261,12 @@ opening-stands log n trust schedule accepts register =
 pub opening-opens : (log : List ℕ) → openingIn log .refusal ≡ 0
     → (opening (countIn log) (trustIn log (countIn log)) (leadersAt log (15 + countIn log) (lengthIn log (countIn log))) .refusal ≡ 0)
     × (openingIn log .register ≡ opening (countIn log) (trustIn log (countIn log)) (leadersAt log (15 + countIn log) (lengthIn log (countIn log))) .register)
-unfolding openingIn openedBy openingRefusalIn opening openingRefusal first choose Clear positive both
+unfolding openingIn openedBy openingRefusalIn opening openingRefusal first choose
 opening-opens log accepts =
     let n : ℕ = countIn log in
     let k : ℕ = lengthIn log n in
-    let schedule : List ℕ = leadersAt log (15 + n) k in
     let none : openingRefusalIn log ≡ 0 = opened-refusal _ _ (openingRefusalIn log) _ accepts in
-    let tests : Clear (openingTestsIn log n k) = first-clear (openingTestsIn log n k) refl none in
-    let all : thereIn log n k ≡ k = omega (arith, there-most log n k, ltb-false (thereIn log n k) k (tests .1 .1 .1 .1 .1 .1 .0)) in
-    let leaders : stray n schedule ≡ false = rw all at (tests .1 .1 .1 .1 .1 .0) in
-    let offices : between 1 32 n ≡ true = not-false (between 1 32 n) (tests .1 .1 .0) in
-    let epochs : between 1 256 k ≡ true = not-false (between 1 256 k) (tests .1 .1 .1 .1 .0) in
-    let opens : openingRefusal n (trustIn log n) schedule ≡ 0 = rw (offices, length-leadersAt log (15 + n) k, epochs, leaders, tests .1 .1 .1 .1 .1 .1 .1 .0) in
+    let good : Fine log n k = fine log n k none in
+    let opens : openingRefusal n (trustIn log n) (leadersAt log (15 + n) k) ≡ 0 =
+    rw (good .offices, length-leadersAt log (15 + n) k, good .epochs, good .leaders, good .third) in
     (opens, rw (none, opens))

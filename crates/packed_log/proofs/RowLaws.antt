@@ -1,108 +1,170 @@
--- Laws of steps and rows: each is got back from the other; the kinds of rows, the room that their numbers have, and rows that are read.
-use Prim.Native.Nat.{ℕ, zero, suc, _+_, _^_, _≤_, _<_}
-use mathlib.Core.Path.{_≡_, refl}
-use mathlib.Core.Bool.{Bool, false}
-use mathlib.Core.List.{List}
-use mathlib.Core.Logic.{⊎-elim}
+-- Laws of the table of widths, and of steps and rows: each is got back from the other; the kinds of rows, the room that their numbers have.
+use Prim.Native.Nat.{ℕ, zero, suc, _+_, _*_, _-_, _/_, _%_, _^_, _≤_, _<_}
+use mathlib.Core.Path.{_≡_, refl, ap, _∙_}
+use mathlib.Core.Bool.{Bool, true, false}
 use native.Mathlib.Omega.{arith}
-use borrow.Author.Tests.{leb-false}
-use lib.Dec.{leb}
-use lib.ListN.{List·getD-eq-default}
+use borrow.Author.Tests.{eqb-true, leb-true, leb-false}
+use lib.Dec.{eqb, leb, T, eqb·suc-zero, leb→le}
+use Rattle.words.specs.Tests.{both, all, choose, either}
+use Rattle.words.proofs.Tests.{both-left, both-right, all-at, either-false-left, either-false-right}
+use Rattle.packed_log.specs.Widths.{kinds, fields, width}
+use mathlib.Core.List.{List}
+use native.Mathlib.Nat.{add-zero, add-suc, suc-add, lt-of-lt-of-le}
+use lib.Pow.{pow-mono}
+use mir.Syntax.{w8}
+use mir.Val.{Fits}
 use Rattle.register.specs.declared.sorts.Kind.{Kind}
 use Rattle.register.specs.declared.sorts.Kind.the-variants.{Proposal, Vote as AVote}
 use Rattle.register.specs.declared.step.Step.{Step}
-use Rattle.register.specs.declared.step.Step.the-variants.{Propose, Vote, Register, Finalise, Deliver, BadSend, Draft, Advance}
-use Rattle.words.specs.Tests.{choose, either}
-use Rattle.words.proofs.Tests.{either-false-left, either-false-right}
 use Rattle.packed_log.specs.declared.row.Row.{Row}
-use Rattle.packed_log.specs.Bits.{field}
-use Rattle.packed_log.specs.Rows.{row, kindNumber, kindOf, rowOf, stepOf, Within}
-use Rattle.packed_log.specs.Widths.{width, fields}
+use Rattle.packed_log.specs.Rows.{row, kindNumber, kindNumbered, rowOf, pick, stepsOf, stepOf, Narrow}
 use Rattle.packed_log.specs.Items.{rowAt}
 use Rattle.packed_log.specs.Writing.{wide}
-use Rattle.packed_log.proofs.WidthLaws.{Other, other}
+use Rattle.register.specs.declared.step.Step.the-variants as steps
+
+-- the widths of a kind as the table has them: a byte for each column, the first column highest
+abbrev entry : (kind : ℕ) → ℕ
+entry kind = ((width kind 0 * 256 + width kind 1) * 256 + width kind 2) * 256 + width kind 3
+
+-- the byte of a column in such an entry
+abbrev byte : (kind column : ℕ) → ℕ
+byte kind column = entry kind / 2 ^ (8 * (3 - column)) % 256
+
+-- it is the width of the kind's column, and at most 16
+unfoldable right : (kind column : ℕ) → Bool
+right kind column = both (eqb (byte kind column) (width kind column)) (leb (byte kind column) 16)
+
+-- every byte of the table is right
+all-right : all (kinds * 4) (λ k. right (k / 4) (k % 4)) ≡ true
+unfolding all both right width fields
+all-right = refl
+
+-- the table gives the width of each kind and column
+pub table-width : (kind column : ℕ) → kind < kinds → column < 4 → (byte kind column ≡ width kind column) × (byte kind column ≤ 16)
+unfolding right
+table-width kind column hk hc =
+    let k : ℕ = kind * 4 + column in
+    let row : k / 4 ≡ kind = omega arith in
+    let place : k % 4 ≡ column = omega arith in
+    let test : right kind column ≡ true = rw (row, place) at (all-at (λ k. right (k / 4) (k % 4)) (kinds * 4) k all-right (omega arith)) in
+    let same : eqb (byte kind column) (width kind column) ≡ true = both-left _ (leb (byte kind column) 16) test in
+    let small : leb (byte kind column) 16 ≡ true = both-right (eqb (byte kind column) (width kind column)) _ test in
+    (eqb-true (byte kind column) (width kind column) same, leb-true (byte kind column) 16 small)
+
+-- k is none of the numbers 1 to n, as the last arm of a `match` says it
+unfoldable pub Other : (n k : ℕ) → Type 0
+Other zero k = Unit {0}
+Other (suc n) k = Other n k × (k ≡ suc n → ⊥)
+
+-- such a number is 0 where it is not above n
+pub other : (n k : ℕ) → Other n k → k ≤ n → k ≡ 0
+unfolding Other
+other zero k h most = omega arith
+other (suc n) k h most = other n k (h .0) (omega (arith, h .1))
+
+-- the first field of each kind has at most ten bits
+all-narrow : all kinds (λ kind. leb (width kind 0) 10) ≡ true
+unfolding all both width fields
+all-narrow = refl
+
+pub first-width : (kind : ℕ) → kind < kinds → width kind 0 ≤ 10
+first-width kind h = leb-true (width kind 0) 10 (all-at (λ k. leb (width k 0) 10) kinds kind all-narrow h)
 
 -- a kind of message is got back from its number
-kind-number : (k : Kind) → kindOf (kindNumber k) ≡ k
-unfolding kindOf kindNumber choose
+kind-number : (k : Kind) → kindNumbered (kindNumber k) ≡ k
+unfolding kindNumbered choose
 kind-number Proposal = refl
 kind-number AVote = refl
 
 -- a number of one bit is got back from its kind of message
-number-kind : (k : ℕ) → k < 2 → kindNumber (kindOf k) ≡ k
-unfolding kindOf kindNumber choose
+number-kind : (k : ℕ) → k < 2 → kindNumber (kindNumbered k) ≡ k
+unfolding kindNumbered choose
 number-kind zero h = refl
 number-kind (suc zero) h = refl
 number-kind (suc (suc k)) h = absurd (omega arith)
 
--- a step is got back from its row
-pub step-row : (s : Step) → stepOf (rowOf s) ≡ s
-unfolding stepOf rowOf
-step-row (Propose o p w) = refl
-step-row (Vote o m) = refl
-step-row (Register o m) = refl
-step-row (Finalise o b) = refl
-step-row (Deliver m o) = refl
-step-row (BadSend o k s b) = rw (kind-number k)
-step-row (Draft p e w) = refl
-step-row Advance = refl
+-- a step is got back from its row, whose kind is one of those of the steps
+pub step-row : (s : Step) → (stepOf (rowOf s) ≡ s) × (0 < rowOf s .kind) × (rowOf s .kind < kinds)
+unfolding stepOf stepsOf pick choose rowOf
+step-row (steps.Propose o p w) = (refl, omega arith, omega arith)
+step-row (steps.Vote o m) = (refl, omega arith, omega arith)
+step-row (steps.Register o m) = (refl, omega arith, omega arith)
+step-row (steps.Finalise o b) = (refl, omega arith, omega arith)
+step-row (steps.Deliver m o) = (refl, omega arith, omega arith)
+step-row (steps.BadSend o k s b) = (rw (kind-number k), omega arith, omega arith)
+step-row (steps.Draft p e w) = (refl, omega arith, omega arith)
+step-row steps.Advance = (refl, omega arith, omega arith)
 
--- a row of one of the eight kinds is got back from its step, where each number has room in its column
-pub row-step : (k a b c d : ℕ) → Within (row k a b c d) → 0 < k → k < 9 → rowOf (stepOf (row k a b c d)) ≡ row k a b c d
-unfolding stepOf rowOf width fields
-row-step zero a b c d h low high = absurd (omega arith)
-row-step (suc zero) a b c d h low high =
-    let fourth : d ≡ 0 = omega (arith, h .fourth) in
-    rw (fourth)
-row-step (suc (suc zero)) a b c d h low high =
-    let third : c ≡ 0 = omega (arith, h .third) in
-    let fourth : d ≡ 0 = omega (arith, h .fourth) in
-    rw (third, fourth)
-row-step (suc (suc (suc zero))) a b c d h low high =
-    let third : c ≡ 0 = omega (arith, h .third) in
-    let fourth : d ≡ 0 = omega (arith, h .fourth) in
-    rw (third, fourth)
-row-step (suc (suc (suc (suc zero)))) a b c d h low high =
-    let third : c ≡ 0 = omega (arith, h .third) in
-    let fourth : d ≡ 0 = omega (arith, h .fourth) in
-    rw (third, fourth)
-row-step (suc (suc (suc (suc (suc zero))))) a b c d h low high =
-    let third : c ≡ 0 = omega (arith, h .third) in
-    let fourth : d ≡ 0 = omega (arith, h .fourth) in
-    rw (third, fourth)
-row-step (suc (suc (suc (suc (suc (suc zero)))))) a b c d h low high = rw (number-kind b (omega (arith, h .second)))
-row-step (suc (suc (suc (suc (suc (suc (suc zero))))))) a b c d h low high =
-    let fourth : d ≡ 0 = omega (arith, h .fourth) in
-    rw (fourth)
-row-step (suc (suc (suc (suc (suc (suc (suc (suc zero)))))))) a b c d h low high =
-    let first : a ≡ 0 = omega (arith, h .first) in
-    let second : b ≡ 0 = omega (arith, h .second) in
-    let third : c ≡ 0 = omega (arith, h .third) in
-    let fourth : d ≡ 0 = omega (arith, h .fourth) in
-    rw (first, second, third, fourth)
-row-step (suc (suc (suc (suc (suc (suc (suc (suc (suc k))))))))) a b c d h low high = absurd (omega arith)
+-- a number, or 0 where its column has no bits
+unfoldable kept : (w x : ℕ) → ℕ
+kept w x = choose (eqb w 0) 0 x
 
--- a row of any kind but 1 to 7 is read as an advance
-pub step-other : (r : Row) → Other 7 (r .kind) → stepOf r ≡ Advance
-unfolding stepOf
-step-other r h = ⊎-elim (λ none. rw none) (λ (above : 8 ≤ r .kind). rw List·getD-eq-default) (other 7 (r .kind) h)
+-- a number that has room in its column is kept
+kept-same : (w x : ℕ) → x < 2 ^ w → kept w x ≡ x
+unfolding kept choose
+kept-same zero x h = omega arith
+kept-same (suc w) x h = rw eqb·suc-zero
 
--- the kinds of the steps are 1 to 8
-pub step-kind : (s : Step) → (0 < rowOf s .kind) × (rowOf s .kind < 9)
-unfolding rowOf
-step-kind (Propose o p w) = (omega arith, omega arith)
-step-kind (Vote o m) = (omega arith, omega arith)
-step-kind (Register o m) = (omega arith, omega arith)
-step-kind (Finalise o b) = (omega arith, omega arith)
-step-kind (Deliver m o) = (omega arith, omega arith)
-step-kind (BadSend o k s b) = (omega arith, omega arith)
-step-kind (Draft p e w) = (omega arith, omega arith)
-step-kind Advance = (omega arith, omega arith)
+-- what holds of each of n numbers, from k on
+abbrev Each : (P : ℕ → Type 0) → (n k : ℕ) → Type 0
+Each P zero k = record {}
+Each P (suc n) k = P k × Each P n (suc k)
+
+each-at : (P : ℕ → Type 0) (n k i : ℕ) → Each P n k → i < n → P (k + i)
+each-at P zero k i h l = absurd (omega arith)
+each-at P (suc n) k zero h l = rw add-zero (h .0)
+each-at P (suc n) k (suc i) h l = rw (add-suc, ← suc-add) (each-at P n (suc k) i (h .1) (omega arith))
+
+-- a row of that kind, where each number has room in its column, is got back from its step
+abbrev Back : (kind : ℕ) → Type 0
+Back kind = (a b c d : ℕ) → Narrow (row kind a b c d)
+    → rowOf (stepOf (row kind a b c d))
+    ≡ row kind (kept (width kind 0) a) (kept (width kind 1) b) (kept (width kind 2) c) (kept (width kind 3) d)
+
+-- each of the kinds of steps
+all-back : Each Back (kinds - 1) 1
+unfolding stepOf stepsOf pick rowOf kept choose width fields
+all-back = (
+  λ a b c d h. refl,
+  (
+    λ a b c d h. refl,
+    (
+      λ a b c d h. refl,
+      (
+        λ a b c d h. refl,
+        (
+          λ a b c d h. refl,
+          (
+            λ a b c d h. rw (number-kind b (omega (arith, h .second))),
+            (
+              λ a b c d h. refl,
+              (
+                λ a b c d h. refl,
+                record {},
+              ),
+            ),
+          ),
+        ),
+      ),
+    ),
+  ),
+)
+
+pub row-step : (r : Row) → Narrow r → 0 < r .kind → r .kind < kinds → rowOf (stepOf r) ≡ r
+row-step r h low high =
+    let here : 1 + (r .kind - 1) ≡ r .kind = omega arith in
+    (rw here at (each-at Back (kinds - 1) 1 (r .kind - 1) all-back (omega arith))) (r .first) (r .second) (r .third) (r .fourth) h
+    ∙ rw (
+      kept-same (width (r .kind) 0) (r .first) (h .first),
+      kept-same (width (r .kind) 1) (r .second) (h .second),
+      kept-same (width (r .kind) 2) (r .third) (h .third),
+      kept-same (width (r .kind) 3) (r .fourth) (h .fourth),
+    )
 
 -- where no number of a row is too wide, each has room in its column
-pub within : (r : Row) → wide r ≡ false → Within r
+pub narrow : (r : Row) → wide r ≡ false → Narrow r
 unfolding wide
-within r h =
+narrow r h =
     let over : (column v : ℕ) → Bool = λ column v. leb (2 ^ width (r .kind) column) v in
     let later : either (over 1 (r .second)) (either (over 2 (r .third)) (over 3 (r .fourth))) ≡ false = either-false-right (over 0 (r .first)) _ h in
     let last : either (over 2 (r .third)) (over 3 (r .fourth)) ≡ false = either-false-right (over 1 (r .second)) _ later in
@@ -113,13 +175,21 @@ within r h =
       fourth = leb-false _ (r .fourth) (either-false-right (over 2 (r .third)) _ last);
     }
 
--- four numbers of those widths, read one behind the other, are the row of their kind, and each has room in its column
-pub row-read : (log : List ℕ) (kind p w0 w1 w2 w3 : ℕ) → w0 ≡ width kind 0 → w1 ≡ width kind 1 → w2 ≡ width kind 2 → w3 ≡ width kind 3
-    → (a b c d : ℕ) → (a ≡ field log p w0) × (a < 2 ^ w0) → (b ≡ field log (p + w0) w1) × (b < 2 ^ w1)
-    → (c ≡ field log (p + w0 + w1) w2) × (c < 2 ^ w2) → (d ≡ field log (p + w0 + w1 + w2) w3) × (d < 2 ^ w3)
-    → (row kind a b c d ≡ rowAt log kind p) × Within (row kind a b c d)
+-- a row that was read has the kind that it was read by
+pub kind-read : (log : List ℕ) (kind p : ℕ) (r : Row) → r ≡ rowAt log kind p → r .kind ≡ kind
 unfolding rowAt
-row-read log kind p w0 w1 w2 w3 e0 e1 e2 e3 a b c d ha hb hc hd = (
-  rw (ha .0, hb .0, hc .0, hd .0, e0, e1, e2, e3),
-  record { first = rw (← e0) (ha .1); second = rw (← e1) (hb .1); third = rw (← e2) (hc .1); fourth = rw (← e3) (hd .1) },
-)
+kind-read log kind p r e = ap (λ (x : Row). x .kind) e
+
+-- For `search arms`: what an arm of a `match` knows of its step or kind.
+pub by-step : (s t : Step) (r : Row) → s ≡ t → r ≡ rowOf t → r ≡ rowOf s
+by-step s t r e f = rw e f
+
+pub by-kind : (r : Row) (kind : ℕ) (s : Step) → r .kind ≡ kind → s ≡ pick kind (stepsOf r) → s ≡ stepOf r
+unfolding stepOf stepsOf
+by-kind r kind s e f = rw e f
+
+-- a number in a column of at most eight bits is a byte
+pub byte-column : (kind k column x : ℕ) → kind ≡ k → x < 2 ^ width kind column → T (leb (width k column) 8) → Fits w8 x
+byte-column kind k column x e room small = record { fits = lt-of-lt-of-le room (pow-mono {j = 8} (rw e (leb→le (width k column) 8 small))) }
+
+pub ruleset arms = (by-step, by-kind, byte-column, refl, tt)

@@ -17,7 +17,6 @@ Stands log p r = drop p (bits log) ≡ r
 
 -- where a row stands up to the log's end, its bits are those that are left
 pub left-stands : (log : List ℕ) (p : ℕ) (r : List Bool) → Stands log p r → left log p ≡ length r
-unfolding left
 left-stands log p r h = simp (length-drop, length-bits) at (ap length h)
 
 module _ (log : List ℕ) (p : ℕ) (t u : List Bool) (stands : Stands log p (t ++ u)) where

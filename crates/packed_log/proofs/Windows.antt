@@ -6,7 +6,7 @@ use mathlib.Core.List.{List, [], _∷_, _++_, append-nil}
 use native.Mathlib.Nat.{add-assoc, add-zero, div-add-mod, div-mul-le-self, div-one, lt-of-le-of-lt, mod-eq-of-lt, one-mul}
 use native.Mathlib.Omega.{arith}
 use lib.ListN.{length, getD, set, take, drop, replicate, length-append, length-drop}
-use lib.Pow.{shl-exact}
+use lib.Pow.{pow-pos, shl-exact}
 use lib.Seq.{sets, length-sets, take-at, drop-drop, getD-drop}
 use Rattle.packed_log.specs.Bits.{Bytes, toBits, num, bits, pack, field, put}
 use Rattle.packed_log.specs.Windows.{window, over}
@@ -18,7 +18,7 @@ pub unit-shift : (w : ℕ) → w ≤ 24 → 1 * 2 ^ w % 2 ^ 32 ≡ 2 ^ w
 unit-shift w h = shl-exact 1 w 32 (omega arith) (omega arith) ∙ one-mul (2 ^ w)
 
 -- the bits above the lowest a, shifted down and up again, still fit
-pub high-shift : (v a : ℕ) → v < 2 ^ 24 → v / 2 ^ a * 2 ^ a % 2 ^ 32 ≡ v / 2 ^ a * 2 ^ a
+high-shift : (v a : ℕ) → v < 2 ^ 24 → v / 2 ^ a * 2 ^ a % 2 ^ 32 ≡ v / 2 ^ a * 2 ^ a
 high-shift v a h = mod-eq-of-lt (lt-of-le-of-lt (div-mul-le-self v (2 ^ a)) (omega arith))
 
 -- the first three bytes, 0 for each that is not there
@@ -27,7 +27,7 @@ three l = getD l 0 0 ∷ getD l 1 0 ∷ getD l 2 0 ∷ []
 
 -- the row of three bytes has the number of the three
 num-three : (l : List ℕ) → Bytes l → num (bits (three l)) ≡ window l 0
-unfolding three window bits num
+unfolding three bits num
 num-three l h =
     let x : List Bool = toBits 8 (getD l 0 0) in
     let y : List Bool = toBits 8 (getD l 1 0) in
@@ -50,15 +50,8 @@ field-three (a ∷ b ∷ c ∷ l) p w room h = field-left (a ∷ b ∷ c ∷ [])
 pub bytes-drop : (f : ℕ) (l : List ℕ) → Bytes l → Bytes (drop f l)
 bytes-drop f l h i = rw getD-drop (h (f + i))
 
--- three bytes make the window at the first of them
-pub three-window : (l : List ℕ) (i a b c : ℕ) → (a ≡ getD l i 0) × (a < 256) → (b ≡ getD l (i + 1) 0) × (b < 256) → (c ≡ getD l (i + 2) 0) × (c < 256)
-    → (a * 65536 + b * 256 + c ≡ window l i) × (a * 65536 + b * 256 + c < 2 ^ 24)
-unfolding window
-three-window l i a b c ha hb hc = (rw (ha .0, hb .0, hc .0), omega arith)
-
 -- the window at a byte is the window at the front of the log from that byte on
 window-drop : (l : List ℕ) (f : ℕ) → window (drop f l) 0 ≡ window l f
-unfolding window
 window-drop l f = rw (getD-drop f l 0, getD-drop f l 1, getD-drop f l 2, add-zero)
 
 -- a field as a part of the window from its first byte on
@@ -89,11 +82,29 @@ over-num v g w x hv hw hx =
     sym (num-sets (toBits 24 v) (24 - g - w) (toBits w x) room ∙ rw (length-toBits, length-toBits, num-toBits 24 v hv, num-toBits w x hx, behind))
 
 -- the number stays within 24 bits
-pub over-lt : (v g w x : ℕ) → v < 2 ^ 24 → g + w ≤ 24 → x < 2 ^ w → over v g w x < 2 ^ 24
+over-lt : (v g w x : ℕ) → v < 2 ^ 24 → g + w ≤ 24 → x < 2 ^ w → over v g w x < 2 ^ 24
 over-lt v g w x hv hw hx =
     let r : List Bool = sets (toBits 24 v) (24 - g - w) (toBits w x) in
     let long : length r ≡ 24 = length-sets (toBits 24 v) (24 - g - w) (toBits w x) ∙ length-toBits 24 v in
     rw (over-num v g w x hv hw hx) (rw long at (num-lt r))
+
+-- what the code computes of it by shifts, each of which loses no bit
+pub record Shifted (v g w x : ℕ) : Type 0 where
+  pub high : v / 2 ^ (g + w) * 2 ^ (g + w) % 2 ^ 32 ≡ v / 2 ^ (g + w) * 2 ^ (g + w)
+  pub middle : x * 2 ^ g % 2 ^ 32 ≡ x * 2 ^ g
+  pub unit : 1 * 2 ^ g % 2 ^ 32 ≡ 2 ^ g
+  pub some : 0 < 2 ^ g
+  pub small : over v g w x < 2 ^ 24
+
+pub shifted : (v g w x : ℕ) → v < 2 ^ 24 → g + w ≤ 24 → x < 2 ^ w → Shifted v g w x
+shifted v g w x hv hw hx =
+    record {
+      high = high-shift v (g + w) hv;
+      middle = shl-exact {a = x} w g 32 hx (omega arith);
+      unit = unit-shift g (omega arith);
+      some = pow-pos g;
+      small = over-lt v g w x hv hw hx;
+    }
 
 -- three bytes of a number
 unfoldable split : ℕ → List ℕ

@@ -1,57 +1,61 @@
--- Laws of what the writer lays over a buffer.
-use Prim.Native.Nat.{ℕ, zero, suc, _+_, _*_, _-_, _%_, _^_, _≤_, _<_, min}
-use mathlib.Core.Path.{_≡_, refl, sym}
+-- Laws of what the writer lays over a buffer: rows, openings, ends, and what its calls give.
+use Prim.Native.Nat.{ℕ, zero, suc, _+_, _*_, _-_, _%_, _^_, _≤_, _<_}
+use mathlib.Core.Path.{_≡_, refl, sym, _∙_}
 use mathlib.Core.Bool.{Bool, true, false, _||_}
-use mathlib.Core.List.{List, [], _∷_, _++_}
+use mathlib.Core.List.{List, [], _∷_, _++_, append-assoc, append-nil}
 use native.Mathlib.Nat.{zero-add, suc-add, mul-le-mul-right, mod-eq-of-lt, min-le-left, min-le-right}
 use native.Mathlib.Numerals.{add-one}
 use native.Mathlib.Omega.{arith}
-use borrow.Author.Tests.{lt-ltb, le-ltb, ne-eqb}
-use lib.ListN.{length, replicate, length-append, length-replicate}
+use borrow.Author.Tests.{ltb-false, ne-eqb}
+use lib.Dec.{leb}
+use lib.ListN.{length, replicate, length-append, length-replicate, getD, take}
 use lib.Pow.{pow-add, pow-mono}
-use Rattle.register.specs.declared.step.Step.{Step}
-use Rattle.words.specs.Tests.{choose, either}
-use Rattle.words.specs.Refusals.{first}
+use Rattle.words.specs.Tests.{choose, both, either}
+use Rattle.words.specs.Refusals.{_⇒_, first, Refusal}
+use Rattle.words.proofs.Tests.{or-either}
+use Rattle.words.proofs.Refusals.{positive, Clear, first-clear, first-before, first-behind}
 use Rattle.packed_log.specs.declared.row.Row.{Row}
 use Rattle.packed_log.specs.declared.writing.Wrote.{Wrote}
 use Rattle.packed_log.specs.Bits.{toBits, put}
-use Rattle.packed_log.specs.Rows.{rowOf, Within}
-use Rattle.packed_log.specs.Widths.{width, due}
-use Rattle.packed_log.specs.Writing.{trustBits, leaderBits, openingBits, rowBits, stepBits, endBits, wide, short, stepRefused, endRefused, wrote, laid}
-use Rattle.packed_log.proofs.BitRows.{length-toBits, zero-bits, join-bits}
+use Rattle.packed_log.specs.Rows.{Narrow}
+use Rattle.packed_log.specs.Widths.{kinds, width, due}
+use Rattle.packed_log.specs.Writing.{trustBits, leaderBits, openingBits, rowBits, endBits, wide, room, short, HasRoom, rowRefused, endRefused, wrote, laid, openingRefused}
+use Rattle.packed_log.proofs.BitRows.{length-toBits, zero-bits, join-bits, bit-row}
 use Rattle.packed_log.proofs.BitsLaws.{put-put}
-use Rattle.packed_log.proofs.WidthLaws.{first-width}
-use Rattle.packed_log.proofs.RowLaws.{step-kind}
+use Rattle.packed_log.proofs.RowLaws.{narrow}
+use lib.Seq.{length-take-le, take-suc}
+use Rattle.quorum.specs.Opening.{openingTests, openingRefusal}
+use Rattle.words.specs.Digits.{digit}
+use Rattle.words.proofs.Digits.{digit-lt}
 
 -- what is laid where the row before it ends
 pub put-next : (l : List ℕ) (p : ℕ) (t u : List Bool) (q : ℕ) → q ≡ p + length t → put (put l p t) q u ≡ put l p (t ++ u)
 put-next l p t u q e = rw e (put-put l p t u)
 
--- the widths of a row have been looked up: each number has room in its own, and the row in what is left from position p on
-pub record Fits (r : Row) (p long w0 w1 w2 w3 : ℕ) : Type 0 where
-  pub first : r .first < 2 ^ w0
-  pub second : r .second < 2 ^ w1
-  pub third : r .third < 2 ^ w2
-  pub fourth : r .fourth < 2 ^ w3
-  pub narrow : w0 ≤ 10
-  pub room : p + 4 + w0 + w1 + w2 + w3 ≤ 8 * long
+-- three tests and a fourth, joined from either side
+either-four : (a b c d : Bool) → either (either (either a b) c) d ≡ either a (either b (either c d))
+unfolding either
+either-four true b c d = refl
+either-four false true c d = refl
+either-four false false c d = refl
+
+-- For `search columns`: a number that has room in its column has room in a width that was looked up.
+pub in-column : (x w v : ℕ) → w ≡ v → x < 2 ^ v → x < 2 ^ w
+in-column x w v e h = rw e h
+
+-- a number has no room in its column where it has none in that width
+pub over-column : (t : Bool) (x w v : ℕ) → t ≡ leb (2 ^ w) x → w ≡ v → t ≡ leb (2 ^ v) x
+over-column t x w v h e = h ∙ rw e
+
+-- the tests of four columns, joined
+pub any-column : (a b c d x y z t : Bool) → a ≡ x → b ≡ y → c ≡ z → d ≡ t → a || b || c || d ≡ either x (either y (either z t))
+any-column a b c d x y z t e f g h = rw (← e, ← f, ← g, ← h, or-either, or-either, or-either) (either-four a b c d)
+
+pub ruleset columns = (in-column, over-column, any-column)
 
 module _ (r : Row) (p w0 w1 w2 w3 : ℕ)
     (e0 : w0 ≡ width (r .kind) 0) (e1 : w1 ≡ width (r .kind) 1) (e2 : w2 ≡ width (r .kind) 2) (e3 : w3 ≡ width (r .kind) 3)
   where
-    -- it is so where the row is within the widths and the buffer has the bits that are due
-    pub row-fits : (long : ℕ) → r .kind < 9 → Within r → p + 4 + due (r .kind) ≤ 8 * long → Fits r p long w0 w1 w2 w3
-    unfolding due
-    row-fits long known within room =
-        record {
-          first = rw e0 (within .first);
-          second = rw e1 (within .second);
-          third = rw e2 (within .third);
-          fourth = rw e3 (within .fourth);
-          narrow = rw e0 (first-width (r .kind) known);
-          room = omega arith;
-        }
-
     -- a kind with its first field, and the other fields, laid one behind the other, are the row
     pub put-row : (l : List ℕ) → r .first < 2 ^ w0 → (head : ℕ) → head ≡ r .kind * 2 ^ w0 + r .first
         → (l1 l2 l3 l4 : List ℕ) → l1 ≡ put l p (toBits (4 + w0) head) → l2 ≡ put l1 (p + 4 + w0) (toBits w1 (r .second))
@@ -79,7 +83,7 @@ module _ (r : Row) (p w0 w1 w2 w3 : ℕ)
         )
 
 -- a kind with a first field of at most ten bits has room in 16 bits, and in those of both
-pub head-fits : (k w x : ℕ) → k < 9 → w ≤ 10 → x < 2 ^ w
+pub head-fits : (k w x : ℕ) → k < kinds → w ≤ 10 → x < 2 ^ w
     → (k * 2 ^ w % 65536 + x ≡ k * 2 ^ w + x) × (k * 2 ^ w + x < 2 ^ (4 + w)) × (k * 2 ^ w + x < 65536)
 head-fits k w x h narrow small =
     let y : ℕ = 2 ^ w in
@@ -91,7 +95,7 @@ head-fits k w x h narrow small =
 
 -- a row takes 4 bits for its kind, and those that are due for its fields
 pub length-row : (r : Row) → length (rowBits r) ≡ 4 + due (r .kind)
-unfolding rowBits due
+unfolding rowBits
 length-row r = simp (length-append, length-toBits) (omega arith)
 
 -- n trust bits are n long
@@ -128,71 +132,96 @@ end-zero p w e =
     let k : ℕ = (8 - (p + 4) % 8) % 8 in
     rw (e, length-end p, zero-bits (4 + k), zero-bits 4) (sym (replicate-append 4 k false))
 
--- the tests of four columns, joined
-pub or-four : (a b c d : Bool) → a || b || c || d ≡ either a (either b (either c d))
-unfolding either
-or-four true b c d = refl
-or-four false true c d = refl
-or-four false false true d = refl
-or-four false false false d = refl
+-- what has room ends within the buffer, at a position below 2^64
+pub has-room : (l : List ℕ) (p size : ℕ) → 0 < size → size ≤ room l p → HasRoom l p size
+has-room l p size some h = (omega (arith, min-le-left (length l) (2 ^ 61 - 1)), omega (arith, min-le-right (length l) (2 ^ 61 - 1)))
 
--- the row of a step has one of the nine kinds
-pub row-kind : (s : Step) (r : Row) → r ≡ rowOf s → r .kind < 9
-row-kind s r e = rw e (step-kind s .1)
+-- what the tests of a row say where nothing is refused
+pub row-clear : (l : List ℕ) (p : ℕ) (r : Row) → rowRefused l p r ≡ 0 → Narrow r × HasRoom l p (4 + due (r .kind))
+unfolding rowRefused Clear positive both
+row-clear l p r none =
+    let tests : Clear ((wide r ⇒ 9) ∷ (short l p (rowBits r) ⇒ 31) ∷ []) = first-clear _ refl none in
+    let enough : length (rowBits r) ≤ room l p = ltb-false (room l p) (length (rowBits r)) (tests .1 .0) in
+    (narrow r (tests .0), has-room l p (4 + due (r .kind)) (omega arith) (rw length-row at enough))
 
--- a step takes four bits for its kind, and those that the fields of its row take
-pub step-size : (s : Step) (r : Row) (d : ℕ) → r ≡ rowOf s → d ≡ due (r .kind) → 4 + d ≡ length (stepBits s)
-unfolding stepBits
-step-size s r d e size = rw (size, e) (sym (length-row (rowOf s)))
+-- a row that is not too wide and has room is not refused
+pub row-fits : (l : List ℕ) (p : ℕ) (r : Row) → wide r ≡ false → short l p (rowBits r) ≡ false → rowRefused l p r ≡ 0
+unfolding rowRefused first choose
+row-fits l p r slim enough = rw (slim, enough)
 
--- what has room ends within the buffer, and starts within the longest log
-pub room-within : (n p room w : ℕ) → room ≡ 8 * min n 65536 - p → w ≤ room → 0 < w → (p + w ≤ 8 * n) × (p ≤ 524288)
-room-within n p room w e h some =
-    let least : min n 65536 ≤ n = min-le-left n 65536 in
-    let small : min n 65536 ≤ 65536 = min-le-right n 65536 in
-    (omega arith, omega arith)
-
--- a row is short of room exactly where fewer bits are left than it has
-pub short-room : (l : List ℕ) (p room w : ℕ) (t : List Bool) → room ≡ 8 * min (length l) 65536 - p → w ≡ length t → room < w → short l p t ≡ true
-unfolding short
-short-room l p room w t e long h = rw (← e, ← long) (lt-ltb room w h)
-
-pub long-room : (l : List ℕ) (p room w : ℕ) (t : List Bool) → room ≡ 8 * min (length l) 65536 - p → w ≡ length t → w ≤ room → short l p t ≡ false
-unfolding short
-long-room l p room w t e long h = rw (← e, ← long) (le-ltb room w h)
-
--- a step that is too wide is refused with 9; one for which the buffer is too short with 31; and no other
-pub step-wide : (l : List ℕ) (p : ℕ) (s : Step) → wide (rowOf s) ≡ true → stepRefused l p s ≡ 9
-unfolding stepRefused first choose
-step-wide l p s w = rw w
-
-pub step-short : (l : List ℕ) (p : ℕ) (s : Step) → wide (rowOf s) ≡ false → short l p (stepBits s) ≡ true → stepRefused l p s ≡ 31
-unfolding stepRefused first choose
-step-short l p s w t = rw (w, t)
-
-pub step-fits : (l : List ℕ) (p : ℕ) (s : Step) → wide (rowOf s) ≡ false → short l p (stepBits s) ≡ false → stepRefused l p s ≡ 0
-unfolding stepRefused first choose
-step-fits l p s w t = rw (w, t)
-
--- an end for which the buffer is too short is refused with 31, and no other
-pub end-short : (l : List ℕ) (p : ℕ) → short l p (endBits p) ≡ true → endRefused l p ≡ 31
-unfolding endRefused first choose
-end-short l p t = rw t
-
+-- nor is an end that has room
 pub end-fits : (l : List ℕ) (p : ℕ) → short l p (endBits p) ≡ false → endRefused l p ≡ 0
 unfolding endRefused first choose
-end-fits l p t = rw t
+end-fits l p enough = rw enough
 
 -- what a call of the writer promises: its answer, and the buffer after it
 abbrev Promised : (l m : List ℕ) → (answer : Wrote) → (refusal p : ℕ) → List Bool → Type 0
 Promised l m answer refusal p t = (answer ≡ wrote refusal p t) × (m ≡ laid l refusal p t)
 
 -- a refusal gives the position that the call was given and changes no bit
-pub call-refused : (l : List ℕ) (p k refusal : ℕ) (t : List Bool) → refusal ≡ k → 0 < k → Promised l l (record { refusal = k; next = p }) refusal p t
+pub call-refused : (l : List ℕ) (p k refusal : ℕ) (t : List Bool) → k ≡ refusal → (k ≡ 0 → ⊥) → Promised l l (record { refusal = k; next = p }) refusal p t
 unfolding wrote laid choose
-call-refused l p k refusal t e some = rw (e, ne-eqb k 0 (λ none. absurd (omega arith))) (refl, refl)
+call-refused l p k refusal t e some = rw (← e, ne-eqb k 0 some) (refl, refl)
 
 -- else the bits are laid, and the next position stands behind them
-pub call-laid : (l m : List ℕ) (p w refusal : ℕ) (t : List Bool) → refusal ≡ 0 → w ≡ length t → m ≡ put l p t → Promised l m (record { refusal = 0; next = p + w }) refusal p t
+pub call-laid : (l m : List ℕ) (p next k refusal : ℕ) (t : List Bool) → k ≡ refusal → k ≡ 0 → next ≡ p + length t → m ≡ put l p t
+    → Promised l m (record { refusal = k; next = next }) refusal p t
 unfolding wrote laid choose
-call-laid l m p w refusal t e long h = rw (e, long) (refl, h)
+call-laid l m p next k refusal t e none behind h = rw (← e, none, behind) (refl, h)
+
+-- a loop's next turn: the trust bits of the offices below q are laid, and now that of office q
+pub next-trust-bit : (l m : List ℕ) (p q trust d : ℕ) → m ≡ put l p (trustBits q trust) → d ≡ digit 2 trust q
+    → put m (p + q) (toBits 1 d) ≡ put l p (trustBits (q + 1) trust)
+unfolding trustBits
+next-trust-bit l m p q trust d before e =
+    rw (before, e, add-one, ← bit-row (digit 2 trust q) (digit-lt 2 trust q (omega arith)))
+    (put-next l p (trustBits q trust) (toBits 1 (digit 2 trust q)) (p + q) (rw length-trust))
+
+-- the bits of a schedule with one leader more
+leaders-snoc : (schedule : List ℕ) (q : ℕ) → leaderBits (schedule ++ (q ∷ [])) ≡ leaderBits schedule ++ toBits 5 q
+unfolding leaderBits
+leaders-snoc [] q = append-nil (toBits 5 q)
+leaders-snoc (x ∷ schedule) q = rw (leaders-snoc schedule q, append-assoc)
+
+-- a loop's next turn: the first i leaders are laid, and now the next
+pub next-leader-bits : (l m : List ℕ) (p i : ℕ) (schedule : List ℕ) → i < length schedule → m ≡ put l p (leaderBits (take i schedule))
+    → put m (p + 5 * i) (toBits 5 (getD schedule i 0)) ≡ put l p (leaderBits (take (i + 1) schedule))
+next-leader-bits l m p i schedule h before =
+    let long : length (leaderBits (take i schedule)) ≡ 5 * i = rw (length-leaders, length-take-le i schedule (omega arith)) in
+    rw (before, add-one, take-suc schedule i 0 h, leaders-snoc)
+    (put-next l p (leaderBits (take i schedule)) (toBits 5 (getD schedule i 0)) (p + 5 * i) (rw long))
+
+-- n, the trust bits, the length and the leaders, laid one behind the other, are the opening
+pub put-opening : (l : List ℕ) (p n trust : ℕ) (schedule : List ℕ) (l1 l2 l3 l4 : List ℕ)
+    → l1 ≡ put l p (toBits 6 n) → l2 ≡ put l1 (p + 6) (trustBits n trust)
+    → l3 ≡ put l2 (p + 6 + n) (toBits 9 (length schedule)) → l4 ≡ put l3 (p + 6 + n + 9) (leaderBits schedule)
+    → l4 ≡ put l p (openingBits n trust schedule)
+unfolding openingBits
+put-opening l p n trust schedule l1 l2 l3 l4 e1 e2 e3 e4 =
+    let t0 : List Bool = toBits 6 n in
+    let t1 : List Bool = t0 ++ trustBits n trust in
+    let t2 : List Bool = t1 ++ toBits 9 (length schedule) in
+    rw (
+      e4,
+      e3,
+      e2,
+      e1,
+      put-next l p t0 (trustBits n trust) (p + 6) (simp length-toBits),
+      put-next l p t1 (toBits 9 (length schedule)) (p + 6 + n) (simp (length-append, length-toBits, length-trust) (omega arith)),
+      put-next l p t2 (leaderBits schedule) (p + 6 + n + 9) (simp (length-append, length-toBits, length-trust) (omega arith)),
+    )
+
+module _ (l : List ℕ) (p n trust : ℕ) (schedule : List ℕ) where
+  -- the test of the buffer, which stands behind those of the opening
+  abbrev pub last : List Refusal
+  last = (short l p (openingBits n trust schedule) ⇒ 31) ∷ []
+
+  -- an opening that the register refuses is refused with its number
+  pub opening-bad : (refusal : ℕ) → refusal ≡ openingRefusal n trust schedule → (refusal ≡ 0 → ⊥) → refusal ≡ openingRefused l p n trust schedule
+  unfolding openingRefused openingRefusal
+  opening-bad refusal same bad = same ∙ sym (first-before (openingTests n trust schedule) last (λ none. bad (same ∙ none)))
+
+  -- for one that it does not refuse, the buffer decides
+  pub opening-room : openingRefusal n trust schedule ≡ 0 → openingRefused l p n trust schedule ≡ first last
+  unfolding openingRefused openingRefusal positive both
+  opening-room none = first-behind (openingTests n trust schedule) last refl none

@@ -57,28 +57,28 @@ pub record Reads (log : List ℕ) (c : Case) : Type 0 where
   pub register : openingIn log .register ≡ fresh (c .n) (c .trust) (c .schedule)
   pub steps : ReadsFrom log (openingIn log .next) (c .steps)
 
--- a buffer, and the position behind what was written into it
-pub record Written : Type 0 where
+-- a buffer, and the position behind what has been written into it
+pub record Filled : Type 0 where
   pub buffer : List ℕ
   pub at : ℕ
 
 -- after a call that was to lay these bits, and was refused or not
-unfoldable pub after : Written → (refusal : ℕ) → List Bool → Written
-after w refusal t = record { buffer = laid (w .buffer) refusal (w .at) t; at = wrote refusal (w .at) t .next }
+unfoldable pub afterCall : Filled → (refusal : ℕ) → List Bool → Filled
+afterCall w refusal t = record { buffer = laid (w .buffer) refusal (w .at) t; at = wrote refusal (w .at) t .next }
 
 -- after a call for each of some steps, each at the position that the call before it gave
-unfoldable pub afterSteps : Written → List Step → Written
-afterSteps w [] = w
-afterSteps w (s ∷ ss) = afterSteps (after w (stepRefused (w .buffer) (w .at) s) (stepBits s)) ss
+unfoldable pub afterStepCalls : Filled → List Step → Filled
+afterStepCalls w [] = w
+afterStepCalls w (s ∷ ss) = afterStepCalls (afterCall w (stepRefused (w .buffer) (w .at) s) (stepBits s)) ss
 
 -- after the calls for the opening, at position 0, for the steps and for the end
-unfoldable pub afterOpening : (buffer : List ℕ) → Case → Written
-afterOpening buffer c =
-    after (record { buffer = buffer; at = 0 }) (openingRefused buffer 0 (c .n) (c .trust) (c .schedule))
+unfoldable pub afterOpeningCall : (buffer : List ℕ) → Case → Filled
+afterOpeningCall buffer c =
+    afterCall (record { buffer = buffer; at = 0 }) (openingRefused buffer 0 (c .n) (c .trust) (c .schedule))
     (openingBits (c .n) (c .trust) (c .schedule))
 
-unfoldable pub afterEnd : Written → Written
-afterEnd w = after w (endRefused (w .buffer) (w .at)) (endBits (w .at))
+unfoldable pub afterEndCall : Filled → Filled
+afterEndCall w = afterCall w (endRefused (w .buffer) (w .at)) (endBits (w .at))
 
-unfoldable pub afterAll : (buffer : List ℕ) → Case → Written
-afterAll buffer c = afterEnd (afterSteps (afterOpening buffer c) (c .steps))
+unfoldable pub afterCalls : (buffer : List ℕ) → Case → Filled
+afterCalls buffer c = afterEndCall (afterStepCalls (afterOpeningCall buffer c) (c .steps))

@@ -15,7 +15,7 @@ use Rattle.packed_log.specs.Bits.{field}
 use Rattle.packed_log.specs.Items.{left}
 
 -- n
-unfoldable pub countIn : (log : List ℕ) → ℕ
+abbrev pub countIn : (log : List ℕ) → ℕ
 countIn log = field log 0 6
 
 -- the trust word: bit q stands for office q, office 0 first
@@ -23,7 +23,7 @@ unfoldable pub trustIn : (log : List ℕ) → (n : ℕ) → ℕ
 trustIn log n = fill 2 n (λ q. field log (6 + q) 1)
 
 -- the schedule's length
-unfoldable pub lengthIn : (log : List ℕ) → (n : ℕ) → ℕ
+abbrev pub lengthIn : (log : List ℕ) → (n : ℕ) → ℕ
 lengthIn log n = field log (6 + n) 9
 
 -- k leaders, from position p on
@@ -35,13 +35,15 @@ leadersAt log p (suc k) = field log p 5 ∷ leadersAt log (p + 5) k
 unfoldable pub thereIn : (log : List ℕ) → (n k : ℕ) → ℕ
 thereIn log n k = min k (left log (15 + n) / 5)
 
--- 30 stands first; then the leftmost fault decides: 27 where the log ends before or inside a field, 1 at n
-abbrev pub countTests : (log : List ℕ) → (n : ℕ) → List Refusal
-countTests log n = (ltb 65536 (length log) ⇒ 30) ∷ (ltb (left log 0) 6 ⇒ 27) ∷ (not (between 1 32 n) ⇒ 1) ∷ []
-
--- 27 inside the trust bits or the length, 2 at the length
-abbrev pub lengthTests : (log : List ℕ) → (n k : ℕ) → List Refusal
-lengthTests log n k = (ltb (left log 6) (n + 9) ⇒ 27) ∷ (not (between 1 256 k) ⇒ 2) ∷ []
+-- 30 stands first; then the leftmost fault decides: 27 where the log ends before or inside a field, 1 at n, 2 at the schedule's length
+abbrev pub frontTests : (log : List ℕ) → (n k : ℕ) → List Refusal
+frontTests log n k =
+    (ltb 65536 (length log) ⇒ 30)
+    ∷ (ltb (left log 0) 6 ⇒ 27)
+    ∷ (not (between 1 32 n) ⇒ 1)
+    ∷ (ltb (left log 6) (n + 9) ⇒ 27)
+    ∷ (not (between 1 256 k) ⇒ 2)
+    ∷ []
 
 -- 3 at a leader that is wholly there, 27 at the first that is not, 4 after the last
 abbrev pub leaderTests : (log : List ℕ) → (n k : ℕ) → List Refusal
@@ -52,7 +54,7 @@ leaderTests log n k =
     ∷ []
 
 abbrev pub openingTestsIn : (log : List ℕ) → (n k : ℕ) → List Refusal
-openingTestsIn log n k = countTests log n ++ lengthTests log n k ++ leaderTests log n k
+openingTestsIn log n k = frontTests log n k ++ leaderTests log n k
 
 unfoldable pub openingRefusalIn : (log : List ℕ) → ℕ
 openingRefusalIn log = first (openingTestsIn log (countIn log) (lengthIn log (countIn log)))

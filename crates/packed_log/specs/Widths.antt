@@ -22,6 +22,10 @@ messageKind = 1
 abbrev epoch : ℕ
 epoch = 9
 
+-- so many kinds there are, the end being the first: 0 to 8
+abbrev pub kinds : ℕ
+kinds = 9
+
 -- the fields of each kind, in the order of the kinds: end, propose, vote, register, finalise, deliver, bad send, draft, advance
 unfoldable pub fields : List (List ℕ)
 fields =
@@ -41,5 +45,5 @@ unfoldable pub width : (kind column : ℕ) → ℕ
 width kind column = getD (getD fields kind []) column 0
 
 -- how many bits the fields of a kind take
-unfoldable pub due : (kind : ℕ) → ℕ
+abbrev pub due : (kind : ℕ) → ℕ
 due kind = width kind 0 + width kind 1 + width kind 2 + width kind 3

@@ -4,7 +4,7 @@ use mathlib.Core.List.{List}
 use lib.ListN.{getD}
 
 -- the three bytes from byte i on, as one number; past the end of the log a byte counts as 0
-unfoldable pub window : (log : List ℕ) → (i : ℕ) → ℕ
+abbrev pub window : (log : List ℕ) → (i : ℕ) → ℕ
 window log i = getD log i 0 * 65536 + getD log (i + 1) 0 * 256 + getD log (i + 2) 0
 
 -- the number v with the w bits above its lowest g bits replaced by those of x

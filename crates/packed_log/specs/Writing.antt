@@ -1,9 +1,9 @@
 -- What the writer lays over a buffer, and what a call of it gives.
-use Prim.Native.Nat.{ℕ, zero, suc, _+_, _*_, _-_, _%_, _^_, min}
+use Prim.Native.Nat.{ℕ, zero, suc, _+_, _*_, _-_, _%_, _^_, _≤_, _<_, min}
 use mathlib.Core.Bool.{Bool, false}
 use mathlib.Core.List.{List, [], _∷_, _++_}
 use lib.Dec.{eqb, ltb, leb}
-use lib.ListN.{length, replicate}
+use lib.ListN.{length, getD, replicate}
 use Rattle.quorum.specs.Opening.{openingTests}
 use Rattle.words.specs.Tests.{choose, either}
 use Rattle.words.specs.Digits.{digit}
@@ -39,7 +39,7 @@ rowBits r =
     ++ toBits (width (r .kind) 3) (r .fourth)
 
 -- the bits of a step
-unfoldable pub stepBits : Step → List Bool
+abbrev pub stepBits : Step → List Bool
 stepBits s = rowBits (rowOf s)
 
 -- the bits of the end at position p: kind 0, and zero bits to the byte's end
@@ -54,17 +54,34 @@ wide r =
     (either (leb (2 ^ width (r .kind) 2) (r .third))
     (leb (2 ^ width (r .kind) 3) (r .fourth))))
 
--- the buffer, which counts as at most 65,536 bytes long, ends before these bits would from position p on
-unfoldable pub short : (buffer : List ℕ) → (p : ℕ) → List Bool → Bool
-short buffer p t = ltb (8 * min (length buffer) 65536 - p) (length t)
+-- how many bits the buffer has left from position p on; 0 at its end and past it. Positions are below 2^64, so that of a buffer of 2^61 bytes or
+-- more, which no machine has, only the bits that have a position count.
+abbrev pub room : (buffer : List ℕ) → (p : ℕ) → ℕ
+room buffer p = 8 * min (length buffer) (2 ^ 61 - 1) - p
+
+-- the buffer ends before these bits would from position p on
+abbrev pub short : (buffer : List ℕ) → (p : ℕ) → List Bool → Bool
+short buffer p t = ltb (room buffer p) (length t)
+
+-- so many bits from position p on are in the buffer, and the position behind them is below 2^64
+abbrev pub HasRoom : (buffer : List ℕ) → (p size : ℕ) → Type 0
+HasRoom buffer p size = (p + size ≤ 8 * length buffer) × (p + size < 2 ^ 64)
+
+-- a schedule that an opening may have: at most 256 leaders, each with room in its 5 bits
+pub record Led (schedule : List ℕ) : Type 0 where
+  pub most : length schedule ≤ 256
+  pub leader : (i : ℕ) → i < length schedule → getD schedule i 0 < 32
 
 -- the refusals of the writer, in their order
 unfoldable pub openingRefused : (buffer : List ℕ) → (p n trust : ℕ) → (schedule : List ℕ) → ℕ
 openingRefused buffer p n trust schedule =
     first (openingTests n trust schedule ++ (short buffer p (openingBits n trust schedule) ⇒ 31) ∷ [])
 
-unfoldable pub stepRefused : (buffer : List ℕ) → (p : ℕ) → Step → ℕ
-stepRefused buffer p s = first ((wide (rowOf s) ⇒ 9) ∷ (short buffer p (stepBits s) ⇒ 31) ∷ [])
+unfoldable pub rowRefused : (buffer : List ℕ) → (p : ℕ) → Row → ℕ
+rowRefused buffer p r = first ((wide r ⇒ 9) ∷ (short buffer p (rowBits r) ⇒ 31) ∷ [])
+
+abbrev pub stepRefused : (buffer : List ℕ) → (p : ℕ) → Step → ℕ
+stepRefused buffer p s = rowRefused buffer p (rowOf s)
 
 unfoldable pub endRefused : (buffer : List ℕ) → (p : ℕ) → ℕ
 endRefused buffer p = first ((short buffer p (endBits p) ⇒ 31) ∷ [])

@@ -2,6 +2,7 @@
 ghost use mathlib.Core.Path.{_≡_};
 ghost use Prim.Native.Nat.{_+_, _*_, _-_, _/_, _%_, _^_, _≤_, _<_, min};
 ghost use lib.ListN.{length, getD, set};
+ghost use Rattle.words.specs.Lent.{lent, given};
 ghost use Rattle.packed_log.specs.Bits.{toBits, field, put};
 ghost use Rattle.packed_log.specs.Windows.{window, over};
 
@@ -24,7 +25,7 @@ pub(crate) fn left_from(total: usize, at: usize) -> usize
 
 // Byte i of the log; 0 past its end.
 fn byte_at(log: &[u8], i: usize) -> u32
-    ensures { λ r. ⌜ (r ≡ getD (now (log .entry)) i 0) × (r < 256) ⌝ }
+    ensures { λ r. ⌜ (r ≡ getD (lent log) i 0) × (r < 256) ⌝ }
 {
     if i < log.len() {
         return log[i] as u32;
@@ -36,7 +37,7 @@ fn byte_at(log: &[u8], i: usize) -> u32
 // first one on.
 fn window_at(log: &[u8], i: usize) -> u32
     requires { ⌜ i ≤ 65536 ⌝ }
-    ensures { λ r. ⌜ (r ≡ window (now (log .entry)) i) × (r < 2 ^ 24) ⌝ }
+    ensures { λ r. ⌜ (r ≡ window (lent log) i) × (r < 2 ^ 24) ⌝ }
 {
     byte_at(log, i) * 65536 + byte_at(log, i + 1) * 256 + byte_at(log, i + 2)
 }
@@ -44,7 +45,7 @@ fn window_at(log: &[u8], i: usize) -> u32
 // The number in the `width` bits from position `at` on, 0 where the width is 0.
 pub(crate) fn read_bits(log: &[u8], at: usize, width: usize) -> u16
     requires { ⌜ (width ≤ 16) × (at + width ≤ 8 * length (now log)) × (length (now log) ≤ 65536) ⌝ }
-    ensures { λ r. ⌜ (r ≡ field (now (log .entry)) at width) × (r < 2 ^ width) ⌝ }
+    ensures { λ r. ⌜ (r ≡ field (lent log) at width) × (r < 2 ^ width) ⌝ }
 {
     if width == 0 {
         return 0;
@@ -57,7 +58,7 @@ pub(crate) fn read_bits(log: &[u8], at: usize, width: usize) -> u16
 // Byte i of the buffer becomes b; past its end no byte does.
 fn store(buf: &mut [u8], i: usize, b: u32)
     requires { ⌜ b < 256 ⌝ }
-    ensures { λ _. ⌜ now (buf .exit) ≡ set (now (buf .entry)) i b ⌝ }
+    ensures { λ _. ⌜ given buf ≡ set (lent buf) i b ⌝ }
 {
     if i < buf.len() {
         buf[i] = b as u8;
@@ -76,7 +77,7 @@ fn laid_over(bits: u32, behind: usize, width: usize, value: u16) -> u32
 // Writes a field that starts within the first byte of the buffer.
 fn write_front(buf: &mut [u8], at: usize, width: usize, value: u16)
     requires { ⌜ (at < 8) × (width ≤ 16) × (at + width ≤ 8 * length (now buf)) × (value < 2 ^ width) ⌝ }
-    ensures { λ _. ⌜ now (buf .exit) ≡ put (now (buf .entry)) at (toBits width value) ⌝ }
+    ensures { λ _. ⌜ given buf ≡ put (lent buf) at (toBits width value) ⌝ }
 {
     let bits = laid_over(window_at(buf, 0), 24 - at - width, width, value);
     store(buf, 0, bits / 65536);
@@ -88,7 +89,7 @@ fn write_front(buf: &mut [u8], at: usize, width: usize, value: u16)
 // first unfinished byte.
 pub(crate) fn write_bits(buf: &mut [u8], at: usize, width: usize, value: u16)
     requires { ⌜ (width ≤ 16) × (at + width ≤ 8 * length (now buf)) × (value < 2 ^ width) ⌝ }
-    ensures { λ _. ⌜ now (buf .exit) ≡ put (now (buf .entry)) at (toBits width value) ⌝ }
+    ensures { λ _. ⌜ given buf ≡ put (lent buf) at (toBits width value) ⌝ }
 {
     if width == 0 {
         return;

@@ -1,24 +1,26 @@
 // Reading a log item by item.
 ghost use mathlib.Core.Path.{_≡_};
+ghost use mathlib.Core.Bool.{not};
 ghost use Prim.Native.Nat.{_+_, _*_, _≤_, _<_};
+ghost use lib.Dec.{eqb};
 ghost use lib.ListN.{length};
-ghost use Rattle.packed_log.specs.Rows.{Within};
-ghost use Rattle.packed_log.specs.Widths.{due};
-ghost use Rattle.packed_log.specs.Items.{left, rowAt, padded, passed, endAt, kindAt, itemAt, passedOf};
+ghost use Rattle.words.specs.Lent.{lent};
+ghost use Rattle.words.specs.Tests.{both};
+ghost use Rattle.packed_log.specs.Widths.{kinds, due};
+ghost use Rattle.packed_log.specs.Items.{left, rowAt, padded, skipped, skippedAt, itemAt, numbers, numbersAt};
 use crate::bits::left_from;
 use crate::bits::read_bits;
 use crate::refusal;
 use crate::row::Row;
 use crate::row::step_of;
 use crate::widths::KIND_WIDTH;
+use crate::widths::KINDS;
 use crate::widths::due_of;
 use crate::widths::width_of;
 use register::Step;
 
 // The most bytes that a log may have.
 pub(crate) const LONGEST: usize = 65536;
-// The last of the kinds.
-const LAST_KIND: u8 = 8;
 
 // What stands at a position of a log: a step with its fields, the end, or a refusal.
 pub enum Item {
@@ -33,37 +35,26 @@ pub struct Read {
     pub next: usize,
 }
 
-// What stands at a position but for a step's fields: the kind of the step, 0 for the end and for a refusal; the refusal, 0 where there is
-// none; and the position behind the item.
-pub struct Passed {
+// An item without a step's fields: the kind of the step, 0 for the end and for a refusal; the refusal, 0 where there is none; and the
+// position behind the item.
+pub struct Skipped {
     pub kind: u8,
     pub refusal: u8,
     pub next: usize,
 }
 
-// A refusal, which leaves the position.
-fn refused(number: u8, at: usize) -> Passed
-    ensures { λ r. ⌜ r ≡ passed 0 number at ⌝ }
-{
-    Passed {
-        kind: 0,
-        refusal: number,
-        next: at,
-    }
-}
-
 // How many bits are left from position `at` on; 0 at the log's end and past it.
 pub(crate) fn left_of(log: &[u8], at: usize) -> usize
     requires { ⌜ length (now log) ≤ 65536 ⌝ }
-    ensures { λ r. ⌜ r ≡ left (now (log .entry)) at ⌝ }
+    ensures { λ r. ⌜ r ≡ left (lent log) at ⌝ }
 {
     left_from(8 * log.len(), at)
 }
 
 // The row whose kind has been read, with its fields from position `at` on.
 fn read_row(log: &[u8], kind: u8, at: usize) -> Row
-    requires { ⌜ (kind < 9) × (at + due kind ≤ 8 * length (now log)) × (length (now log) ≤ 65536) ⌝ }
-    ensures { λ r. ⌜ (r ≡ rowAt (now (log .entry)) kind at) × (Within r) ⌝ }
+    requires { ⌜ (kind < kinds) × (at + due kind ≤ 8 * length (now log)) × (length (now log) ≤ 65536) ⌝ }
+    ensures { λ r. ⌜ r ≡ rowAt (lent log) kind at ⌝ }
 {
     let w0 = width_of(kind, 0);
     let w1 = width_of(kind, 1);
@@ -84,7 +75,7 @@ fn read_row(log: &[u8], kind: u8, at: usize) -> Row
 // From position `at` to the byte's end there are zero bits, and no byte stands behind.
 fn is_padded(log: &[u8], at: usize) -> bool
     requires { ⌜ (at ≤ 8 * length (now log)) × (length (now log) ≤ 65536) ⌝ }
-    ensures { λ r. ⌜ r ≡ padded (now (log .entry)) at ⌝ }
+    ensures { λ r. ⌜ r ≡ padded (lent log) at ⌝ }
 {
     let rest = left_of(log, at);
     if rest < 8 {
@@ -93,47 +84,31 @@ fn is_padded(log: &[u8], at: usize) -> bool
     false
 }
 
-// The end, whose kind stands at position `at`.
-fn pass_end(log: &[u8], at: usize) -> Passed
-    requires { ⌜ (at + 4 ≤ 8 * length (now log)) × (length (now log) ≤ 65536) ⌝ }
-    ensures { λ r. ⌜ r ≡ passedOf (endAt (now (log .entry)) at) ⌝ }
+// The kind is that of the end, and what stands behind it is not the pad.
+fn is_ill_ended(log: &[u8], kind: u8, at: usize) -> bool
+    requires { ⌜ (at ≤ 8 * length (now log)) × (length (now log) ≤ 65536) ⌝ }
+    ensures { λ r. ⌜ r ≡ both (eqb kind 0) (not (padded (lent log) at)) ⌝ }
 {
-    if is_padded(log, at + KIND_WIDTH) {
-        return Passed {
-            kind: 0,
-            refusal: 0,
-            next: 8 * log.len(),
-        };
+    if kind == 0 {
+        return !is_padded(log, at);
     }
-    refused(refusal::ENDING, at)
+    false
 }
 
-// What the kind at position `at` brings, but for the fields.
-fn pass_kind(log: &[u8], kind: u8, at: usize) -> Passed
-    requires { ⌜ (at + 4 ≤ 8 * length (now log)) × (length (now log) ≤ 65536) ⌝ }
-    ensures { λ r. ⌜ r ≡ passedOf (kindAt (now (log .entry)) kind at) ⌝ }
+// A refusal, which leaves the position.
+fn refused(number: u8, at: usize) -> Skipped
+    ensures { λ r. ⌜ r ≡ skipped 0 number at ⌝ }
 {
-    if LAST_KIND < kind {
-        return refused(refusal::NO_SUCH_STEP, at);
-    }
-    if kind == 0 {
-        return pass_end(log, at);
-    }
-    let size = due_of(kind);
-    let from = at + KIND_WIDTH;
-    if left_of(log, from) < size {
-        return refused(refusal::CUT, at);
-    }
-    Passed {
-        kind,
-        refusal: 0,
-        next: from + size,
+    Skipped {
+        kind: 0,
+        refusal: number,
+        next: at,
     }
 }
 
 // The item at position `at`, but for a step's fields.
-pub fn pass_item(log: &[u8], at: usize) -> Passed
-    ensures { λ r. ⌜ r ≡ passedOf (itemAt (now (log .entry)) at) ⌝ }
+pub fn skip_item(log: &[u8], at: usize) -> Skipped
+    ensures { λ r. ⌜ r ≡ skippedAt (lent log) at ⌝ }
 {
     if LONGEST < log.len() {
         return refused(refusal::LONG_LOG, at);
@@ -141,31 +116,51 @@ pub fn pass_item(log: &[u8], at: usize) -> Passed
     if left_of(log, at) < KIND_WIDTH {
         return refused(refusal::CUT, at);
     }
-    let kind = read_bits(log, at, KIND_WIDTH);
-    pass_kind(log, kind as u8, at)
+    let kind = read_bits(log, at, KIND_WIDTH) as u8;
+    if KINDS <= kind as usize {
+        return refused(refusal::NO_SUCH_STEP, at);
+    }
+    let from = at + KIND_WIDTH;
+    let size = due_of(kind);
+    if left_of(log, from) < size {
+        return refused(refusal::CUT, at);
+    }
+    if is_ill_ended(log, kind, from) {
+        return refused(refusal::ENDING, at);
+    }
+    let next = if kind == 0 {
+        8 * log.len()
+    } else {
+        from + size
+    };
+    Skipped {
+        kind,
+        refusal: 0,
+        next,
+    }
 }
 
 // The item at position `at`.
 pub fn read_item(log: &[u8], at: usize) -> Read
-    ensures { λ r. ⌜ r ≡ itemAt (now (log .entry)) at ⌝ }
+    ensures { λ r. ⌜ (r ≡ itemAt (lent log) at) × (numbers (r .item) ≡ numbersAt (lent log) at) ⌝ }
 {
-    let passed = pass_item(log, at);
-    if passed.refusal != 0 {
+    let skipped = skip_item(log, at);
+    if skipped.refusal != 0 {
         return Read {
-            item: Item::Refused(passed.refusal),
-            next: passed.next,
+            item: Item::Refused(skipped.refusal),
+            next: skipped.next,
         };
     }
-    if passed.kind == 0 {
+    if skipped.kind == 0 {
         return Read {
             item: Item::End,
-            next: passed.next,
+            next: skipped.next,
         };
     }
-    let row = read_row(log, passed.kind, at + KIND_WIDTH);
+    let row = read_row(log, skipped.kind, at + KIND_WIDTH);
     let step = step_of(row);
     Read {
         item: Item::Step(step),
-        next: passed.next,
+        next: skipped.next,
     }
 }

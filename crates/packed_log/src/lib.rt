@@ -10,8 +10,8 @@ pub mod write_opening;
 pub mod writing;
 
 pub use item::Item;
-pub use item::Passed;
 pub use item::Read;
+pub use item::Skipped;
 pub use opening::Opening;
 pub use reader::Reader;
 pub use writing::Wrote;

@@ -3,11 +3,12 @@ ghost use mathlib.Core.Path.{_≡_};
 ghost use Prim.Native.Nat.{_+_, _*_, _≤_};
 ghost use lib.Dec.{eqb, ltb};
 ghost use lib.ListN.{length, take};
+ghost use Rattle.words.specs.Lent.{lent};
 ghost use Rattle.words.specs.Tests.{choose};
 ghost use Rattle.words.specs.Refusals.{first};
 ghost use Rattle.register.specs.Opening.{closed};
 ghost use Rattle.packed_log.specs.Items.{left};
-ghost use Rattle.packed_log.specs.Openings.{countIn, trustIn, lengthIn, leadersAt, thereIn, countTests, lengthTests, leaderTests, opened, openedBy, openingIn};
+ghost use Rattle.packed_log.specs.Openings.{countIn, trustIn, lengthIn, leadersAt, thereIn, frontTests, leaderTests, opened, openedBy, openingIn};
 use crate::bits::read_bits;
 use crate::bits::shorter;
 use crate::item::LONGEST;
@@ -41,9 +42,9 @@ fn refused(number: u8) -> Opening
     }
 }
 
-// The refusal that is met up to n: 30, 27 or 1.
-fn count_refusal(log: &[u8]) -> u8
-    ensures { λ r. ⌜ r ≡ first (countTests (now (log .entry)) (countIn (now (log .entry)))) ⌝ }
+// The refusal that is met up to the schedule's length: 30, 27, 1, 27 or 2.
+fn front_refusal(log: &[u8]) -> u8
+    ensures { λ r. ⌜ r ≡ first (frontTests (lent log) (countIn (lent log)) (lengthIn (lent log) (countIn (lent log)))) ⌝ }
 {
     if LONGEST < log.len() {
         return refusal::LONG_LOG;
@@ -51,23 +52,15 @@ fn count_refusal(log: &[u8]) -> u8
     if left_of(log, 0) < COUNT_WIDTH {
         return refusal::CUT;
     }
-    let n = read_bits(log, 0, COUNT_WIDTH);
-    if !words::between(1, 32, n as usize) {
+    let n = read_bits(log, 0, COUNT_WIDTH) as usize;
+    if !words::between(1, 32, n) {
         return register::refusal::COUNT;
     }
-    0
-}
-
-// The refusal that is met behind n, up to the schedule's length: 27 or 2.
-fn length_refusal(log: &[u8], n: u8) -> u8
-    requires { ⌜ (n ≤ 32) × (length (now log) ≤ 65536) ⌝ }
-    ensures { λ r. ⌜ r ≡ first (lengthTests (now (log .entry)) n (lengthIn (now (log .entry)) n)) ⌝ }
-{
-    if left_of(log, COUNT_WIDTH) < n as usize + LENGTH_WIDTH {
+    if left_of(log, COUNT_WIDTH) < n + LENGTH_WIDTH {
         return refusal::CUT;
     }
-    let k = read_bits(log, COUNT_WIDTH + n as usize, LENGTH_WIDTH);
-    if !words::between(1, 256, k as usize) {
+    let k = read_bits(log, COUNT_WIDTH + n, LENGTH_WIDTH) as usize;
+    if !words::between(1, 256, k) {
         return register::refusal::SCHEDULE;
     }
     0
@@ -76,7 +69,7 @@ fn length_refusal(log: &[u8], n: u8) -> u8
 // The trust word of n offices.
 fn read_trust(log: &[u8], n: u8) -> u32
     requires { ⌜ (n ≤ 32) × (6 + n ≤ 8 * length (now log)) × (length (now log) ≤ 65536) ⌝ }
-    ensures { λ r. ⌜ r ≡ trustIn (now (log .entry)) n ⌝ }
+    ensures { λ r. ⌜ r ≡ trustIn (lent log) n ⌝ }
 {
     let mut trust = 0;
     let mut q = 0;
@@ -90,7 +83,7 @@ fn read_trust(log: &[u8], n: u8) -> u32
 // So many leaders, from position `at` on.
 fn read_leaders(log: &[u8], at: usize, count: usize) -> [u8; 256]
     requires { ⌜ (count ≤ 256) × (at + 5 * count ≤ 8 * length (now log)) × (length (now log) ≤ 65536) ⌝ }
-    ensures { λ r. ⌜ (length r ≡ 256) × (take count r ≡ leadersAt (now (log .entry)) at count) ⌝ }
+    ensures { λ r. ⌜ (length r ≡ 256) × (take count r ≡ leadersAt (lent log) at count) ⌝ }
 {
     let mut leaders = [0u8; 256];
     let mut i = 0;
@@ -104,7 +97,7 @@ fn read_leaders(log: &[u8], at: usize, count: usize) -> [u8; 256]
 // How many of the k leaders are wholly there.
 fn there_of(log: &[u8], n: u8, k: usize) -> usize
     requires { ⌜ length (now log) ≤ 65536 ⌝ }
-    ensures { λ r. ⌜ (r ≡ thereIn (now (log .entry)) n k) × (r ≤ k) × (5 * r ≤ left (now (log .entry)) (15 + n)) ⌝ }
+    ensures { λ r. ⌜ (r ≡ thereIn (lent log) n k) × (r ≤ k) × (5 * r ≤ left (lent log) (15 + n)) ⌝ }
 {
     let rest = left_of(log, COUNT_WIDTH + LENGTH_WIDTH + n as usize);
     shorter(k, rest / LEADER_WIDTH)
@@ -125,8 +118,9 @@ fn leader_refusal(opening: u8, there: usize, k: usize) -> u8
 
 // The opening of n offices and k leaders.
 fn open_with(log: &[u8], n: u8, k: usize) -> Opening
-    requires { ⌜ (1 ≤ n) × (n ≤ 32) × (1 ≤ k) × (k ≤ 256) × (15 + n ≤ 8 * length (now log)) × (length (now log) ≤ 65536) ⌝ }
-    ensures { λ r. ⌜ r ≡ openedBy (now (log .entry)) n k (first (leaderTests (now (log .entry)) n k)) ⌝ }
+    requires { ⌜ (1 ≤ n) × (n ≤ 32) × (1 ≤ k) × (k ≤ 256)
+        × (15 + n ≤ 8 * length (now log)) × (length (now log) ≤ 65536) ⌝ }
+    ensures { λ r. ⌜ r ≡ openedBy (lent log) n k (first (leaderTests (lent log) n k)) ⌝ }
 {
     let from = COUNT_WIDTH + LENGTH_WIDTH + n as usize;
     let there = there_of(log, n, k);
@@ -146,17 +140,13 @@ fn open_with(log: &[u8], n: u8, k: usize) -> Opening
 
 // The opening of a log, read from bit 0.
 pub fn read_opening(log: &[u8]) -> Opening
-    ensures { λ r. ⌜ r ≡ openingIn (now (log .entry)) ⌝ }
+    ensures { λ r. ⌜ r ≡ openingIn (lent log) ⌝ }
 {
-    let early = count_refusal(log);
-    if early != 0 {
-        return refused(early);
+    let refusal = front_refusal(log);
+    if refusal != 0 {
+        return refused(refusal);
     }
     let n = read_bits(log, 0, COUNT_WIDTH) as u8;
-    let late = length_refusal(log, n);
-    if late != 0 {
-        return refused(late);
-    }
-    let k = read_bits(log, COUNT_WIDTH + n as usize, LENGTH_WIDTH);
-    open_with(log, n, k as usize)
+    let k = read_bits(log, COUNT_WIDTH + n as usize, LENGTH_WIDTH) as usize;
+    open_with(log, n, k)
 }

@@ -1,7 +1,8 @@
 // A reader, which keeps the lent log beside a position in it, for whoever reads a log item by item. It is thin:
 // `read_opening` and `read_item` do the work.
 ghost use mathlib.Core.Path.{_≡_};
-ghost use Rattle.packed_log.specs.Items.{itemAt};
+ghost use Rattle.words.specs.Lent.{lent, given};
+ghost use Rattle.packed_log.specs.Items.{itemAt, numbers, numbersAt};
 ghost use Rattle.packed_log.specs.Openings.{openingIn};
 use crate::item::Item;
 use crate::item::read_item;
@@ -24,9 +25,9 @@ impl<'a> Reader<'a> {
 
     // The opening of the log. It moves the position behind the last leader; a refusal, to the log's start.
     pub fn open(&mut self) -> Opening
-        ensures { λ r. ⌜ (r ≡ openingIn (now (now (self .entry) .log)))
-            × (now (self .exit) .log ≡ now (self .entry) .log)
-            × (now (self .exit) .at ≡ openingIn (now (now (self .entry) .log)) .next) ⌝ }
+        ensures { λ r. ⌜ (r ≡ openingIn (now (lent self .log)))
+            × (given self .log ≡ lent self .log)
+            × (given self .at ≡ openingIn (now (lent self .log)) .next) ⌝ }
     {
         let opening = read_opening(self.log);
         self.at = opening.next;
@@ -35,9 +36,10 @@ impl<'a> Reader<'a> {
 
     // The item at the position. A step moves the position behind its fields, the end to the log's end; a refusal leaves it.
     pub fn next(&mut self) -> Item
-        ensures { λ r. ⌜ (r ≡ itemAt (now (now (self .entry) .log)) (now (self .entry) .at) .item)
-            × (now (self .exit) .log ≡ now (self .entry) .log)
-            × (now (self .exit) .at ≡ itemAt (now (now (self .entry) .log)) (now (self .entry) .at) .next) ⌝ }
+        ensures { λ r. ⌜ (r ≡ itemAt (now (lent self .log)) (lent self .at) .item)
+            × (numbers r ≡ numbersAt (now (lent self .log)) (lent self .at))
+            × (given self .log ≡ lent self .log)
+            × (given self .at ≡ itemAt (now (lent self .log)) (lent self .at) .next) ⌝ }
     {
         let read = read_item(self.log, self.at);
         self.at = read.next;

@@ -1,6 +1,8 @@
 // A step as a row of the log, and back.
 ghost use mathlib.Core.Path.{_≡_};
-ghost use Rattle.packed_log.specs.Rows.{row, kindNumber, kindOf, rowOf, stepOf, Within};
+ghost use Prim.Native.Nat.{_<_};
+ghost use Rattle.packed_log.specs.Rows.{row, kindNumber, kindNumbered, rowOf, stepOf, Narrow};
+ghost use Rattle.packed_log.specs.Widths.{kinds};
 use register::Block;
 use register::Epoch;
 use register::Kind;
@@ -28,8 +30,8 @@ fn kind_number(kind: Kind) -> u16
 }
 
 // The kind of a message with that number.
-fn kind_of(number: u16) -> Kind
-    ensures { λ r. ⌜ r ≡ kindOf number ⌝ }
+fn kind_numbered(number: u16) -> Kind
+    ensures { λ r. ⌜ r ≡ kindNumbered number ⌝ }
 {
     if number == 0 {
         return Kind::Proposal;
@@ -66,9 +68,9 @@ pub(crate) fn row_of(step: Step) -> Row
     }
 }
 
-// The step of a row.
+// The step of a row. The last arm is never reached.
 pub(crate) fn step_of(r: Row) -> Step
-    requires { ⌜ Within r ⌝ }
+    requires { ⌜ (0 < r .kind) × (r .kind < kinds) × Narrow r ⌝ }
     ensures { λ s. ⌜ s ≡ stepOf r ⌝ }
 {
     let kind = r.kind;
@@ -80,11 +82,12 @@ pub(crate) fn step_of(r: Row) -> Step
         5 => Step::Deliver(Message(r.first), Office(r.second as u8)),
         6 => Step::BadSend(
             Office(r.first as u8),
-            kind_of(r.second),
+            kind_numbered(r.second),
             Office(r.third as u8),
             Block(r.fourth as u8),
         ),
         7 => Step::Draft(Block(r.first as u8), Epoch(r.second), r.third),
+        8 => Step::Advance,
         _ => Step::Advance,
     }
 }

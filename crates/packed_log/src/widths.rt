@@ -1,13 +1,16 @@
 // The widths of the fields, by kind.
 ghost use mathlib.Core.Path.{_≡_};
 ghost use Prim.Native.Nat.{_+_, _*_, _≤_, _<_};
-ghost use Rattle.packed_log.specs.Widths.{width, due};
+ghost use Rattle.packed_log.specs.Widths.{kinds, width, due};
 
 // A kind takes so many bits.
 pub(crate) const KIND_WIDTH: usize = 4;
 
-// The widths of the four columns of each of the nine kinds, a byte for each column, the first column highest; 00 where there is no field.
-const WIDTHS: [u32; 9] = [
+// So many kinds there are, the end being the first.
+pub(crate) const KINDS: usize = 9;
+
+// The widths of the four columns of each kind, a byte for each column, the first column highest; 00 where there is no field.
+const WIDTHS: [u32; KINDS] = [
     // end
     0x00_00_00_00,
     // propose: office, parent, payload
@@ -30,6 +33,7 @@ const WIDTHS: [u32; 9] = [
 
 // The entry of a kind. It goes by cases, so that each entry is a constant for the compiler.
 fn entry_of(kind: u8) -> u32
+    requires { ⌜ kind < kinds ⌝ }
     ensures { λ r. ⌜ r ≡ ((width kind 0 * 256 + width kind 1) * 256 + width kind 2) * 256 + width kind 3 ⌝ }
 {
     match kind {
@@ -47,7 +51,7 @@ fn entry_of(kind: u8) -> u32
 
 // The width of a kind's field in a column; 0 where there is no field.
 pub(crate) fn width_of(kind: u8, column: usize) -> usize
-    requires { ⌜ (kind < 9) × (column < 4) ⌝ }
+    requires { ⌜ (kind < kinds) × (column < 4) ⌝ }
     ensures { λ r. ⌜ (r ≡ width kind column) × (r ≤ 16) ⌝ }
 {
     ((entry_of(kind) >> (8 * (3 - column))) % 256) as usize
@@ -55,7 +59,7 @@ pub(crate) fn width_of(kind: u8, column: usize) -> usize
 
 // How many bits the fields of a kind take.
 pub(crate) fn due_of(kind: u8) -> usize
-    requires { ⌜ kind < 9 ⌝ }
+    requires { ⌜ kind < kinds ⌝ }
     ensures { λ r. ⌜ (r ≡ due kind) × (r ≤ 64) ⌝ }
 {
     width_of(kind, 0) + width_of(kind, 1) + width_of(kind, 2) + width_of(kind, 3)

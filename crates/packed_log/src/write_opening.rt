@@ -1,9 +1,10 @@
 // Writing the opening of a log.
 ghost use mathlib.Core.Path.{_≡_};
-ghost use Prim.Native.Nat.{ℕ, _+_, _*_, _≤_, _<_};
-ghost use lib.ListN.{length, getD};
+ghost use Prim.Native.Nat.{_+_, _*_, _≤_, _<_};
+ghost use lib.ListN.{length};
+ghost use Rattle.words.specs.Lent.{lent, given};
 ghost use Rattle.packed_log.specs.Bits.{put};
-ghost use Rattle.packed_log.specs.Writing.{trustBits, leaderBits, openingBits, openingRefused, wrote, laid};
+ghost use Rattle.packed_log.specs.Writing.{trustBits, leaderBits, openingBits, HasRoom, Led, openingRefused, wrote, laid};
 use crate::bits::write_bits;
 use crate::opening::COUNT_WIDTH;
 use crate::opening::LEADER_WIDTH;
@@ -14,8 +15,8 @@ use crate::writing::room_of;
 
 // Lays the trust bits of n offices over the buffer from position `at` on, office 0 first.
 fn write_trust(buf: &mut [u8], at: usize, n: u8, trust: u32)
-    requires { ⌜ (n ≤ 32) × (at + n ≤ 8 * length (now buf)) × (at ≤ 1048576) ⌝ }
-    ensures { λ _. ⌜ now (buf .exit) ≡ put (now (buf .entry)) at (trustBits n trust) ⌝ }
+    requires { ⌜ (n ≤ 32) × HasRoom (now buf) at n ⌝ }
+    ensures { λ _. ⌜ given buf ≡ put (lent buf) at (trustBits n trust) ⌝ }
 {
     let mut q = 0;
     while q < n {
@@ -26,8 +27,8 @@ fn write_trust(buf: &mut [u8], at: usize, n: u8, trust: u32)
 
 // Lays the leaders of a schedule over the buffer from position `at` on.
 fn write_leaders(buf: &mut [u8], at: usize, schedule: &[u8])
-    requires { ⌜ ((i : ℕ) → i < length (now schedule) → getD (now schedule) i 0 < 32) × (length (now schedule) ≤ 256) × (at + 5 * length (now schedule) ≤ 8 * length (now buf)) × (at ≤ 1048576) ⌝ }
-    ensures { λ _. ⌜ now (buf .exit) ≡ put (now (buf .entry)) at (leaderBits (now (schedule .entry))) ⌝ }
+    requires { ⌜ Led (now schedule) × HasRoom (now buf) at (5 * length (now schedule)) ⌝ }
+    ensures { λ _. ⌜ given buf ≡ put (lent buf) at (leaderBits (lent schedule)) ⌝ }
 {
     let mut i = 0;
     while i < schedule.len() {
@@ -38,8 +39,8 @@ fn write_leaders(buf: &mut [u8], at: usize, schedule: &[u8])
 
 // Lays n, the trust bits, the schedule's length and its leaders over the buffer from position `at` on.
 fn lay_opening(buf: &mut [u8], at: usize, n: u8, trust: u32, schedule: &[u8])
-    requires { ⌜ (n ≤ 32) × ((i : ℕ) → i < length (now schedule) → getD (now schedule) i 0 < 32) × (length (now schedule) ≤ 256) × (at + (15 + n + 5 * length (now schedule)) ≤ 8 * length (now buf)) × (at ≤ 524288) ⌝ }
-    ensures { λ _. ⌜ now (buf .exit) ≡ put (now (buf .entry)) at (openingBits n trust (now (schedule .entry))) ⌝ }
+    requires { ⌜ (n ≤ 32) × Led (now schedule) × HasRoom (now buf) at (15 + n + 5 * length (now schedule)) ⌝ }
+    ensures { λ _. ⌜ given buf ≡ put (lent buf) at (openingBits n trust (lent schedule)) ⌝ }
 {
     let after_count = at + COUNT_WIDTH;
     let after_trust = after_count + n as usize;
@@ -51,7 +52,9 @@ fn lay_opening(buf: &mut [u8], at: usize, n: u8, trust: u32, schedule: &[u8])
 
 // Writes an opening at position `at`.
 pub fn write_opening(buf: &mut [u8], at: usize, n: u8, trust: u32, schedule: &[u8]) -> Wrote
-    ensures { λ r. ⌜ (r ≡ wrote (openingRefused (now (buf .entry)) at n trust (now (schedule .entry))) at (openingBits n trust (now (schedule .entry)))) × (now (buf .exit) ≡ laid (now (buf .entry)) (openingRefused (now (buf .entry)) at n trust (now (schedule .entry))) at (openingBits n trust (now (schedule .entry)))) ⌝ }
+    ensures { λ r. ⌜ (r ≡ wrote (openingRefused (lent buf) at n trust (lent schedule)) at (openingBits n trust (lent schedule)))
+        × (given buf ≡ laid (lent buf) (openingRefused (lent buf) at n trust (lent schedule)) at
+        (openingBits n trust (lent schedule))) ⌝ }
 {
     let refusal = quorum::opening_refusal(n, trust, schedule);
     if refusal != 0 {

@@ -1,16 +1,16 @@
 // Writing a step or the end into a buffer, at a given position.
 ghost use mathlib.Core.Path.{_≡_};
-ghost use Prim.Native.Nat.{_+_, _*_, _-_, _^_, _≤_, _<_, min};
+ghost use Prim.Native.Nat.{_+_, _*_, _-_, _^_, _≤_, _<_};
 ghost use lib.Dec.{leb};
 ghost use lib.ListN.{length};
+ghost use Rattle.words.specs.Lent.{lent, given};
 ghost use Rattle.packed_log.specs.Bits.{put};
-ghost use Rattle.packed_log.specs.Rows.{Within};
-ghost use Rattle.packed_log.specs.Widths.{due};
-ghost use Rattle.packed_log.specs.Writing.{rowBits, stepBits, endBits, wide, stepRefused, endRefused, wrote, laid};
+ghost use Rattle.packed_log.specs.Rows.{Narrow};
+ghost use Rattle.packed_log.specs.Widths.{kinds, due};
+ghost use Rattle.packed_log.specs.Writing.{rowBits, stepBits, endBits, wide, room, HasRoom, rowRefused, stepRefused, endRefused, wrote, laid};
 use crate::bits::left_from;
 use crate::bits::shorter;
 use crate::bits::write_bits;
-use crate::item::LONGEST;
 use crate::refusal;
 use crate::row::Row;
 use crate::row::row_of;
@@ -25,11 +25,14 @@ pub struct Wrote {
     pub next: usize,
 }
 
-// How many bits the buffer has left from position `at` on, where it counts as at most 65,536 bytes long.
+// The most bytes of which each bit has a position.
+const MOST_BYTES: usize = 0x1FFF_FFFF_FFFF_FFFF;
+
+// How many bits the buffer has left from position `at` on.
 pub(crate) fn room_of(buf: &[u8], at: usize) -> usize
-    ensures { λ r. ⌜ (r ≡ 8 * min (length (now (buf .entry))) 65536 - at) × (r ≤ 524288) ⌝ }
+    ensures { λ r. ⌜ r ≡ room (lent buf) at ⌝ }
 {
-    left_from(8 * shorter(buf.len(), LONGEST), at)
+    left_from(8 * shorter(buf.len(), MOST_BYTES), at)
 }
 
 // The number has no room in so many bits.
@@ -42,7 +45,7 @@ fn is_over(number: u16, width: usize) -> bool
 
 // Some number of the row has no room in its column.
 fn is_wide(r: Row) -> bool
-    requires { ⌜ r .kind < 9 ⌝ }
+    requires { ⌜ r .kind < kinds ⌝ }
     ensures { λ t. ⌜ t ≡ wide r ⌝ }
 {
     let kind = r.kind;
@@ -55,7 +58,7 @@ fn is_wide(r: Row) -> bool
 
 // A kind and its first field, of that width, as one number.
 fn head_of(kind: u8, first: u16, width: usize) -> u16
-    requires { ⌜ (kind < 9) × (width ≤ 10) × (first < 2 ^ width) ⌝ }
+    requires { ⌜ (kind < kinds) × (width ≤ 10) × (first < 2 ^ width) ⌝ }
     ensures { λ r. ⌜ (r ≡ kind * 2 ^ width + first) × (r < 2 ^ (4 + width)) ⌝ }
 {
     ((kind as u16) << width) + first
@@ -63,8 +66,8 @@ fn head_of(kind: u8, first: u16, width: usize) -> u16
 
 // Lays the kind and the fields of a row over the buffer from position `at` on, the kind together with the first field.
 fn write_row(buf: &mut [u8], at: usize, r: Row)
-    requires { ⌜ (r .kind < 9) × (at + 4 + due (r .kind) ≤ 8 * length (now buf)) × (at ≤ 524288) × Within r ⌝ }
-    ensures { λ _. ⌜ now (buf .exit) ≡ put (now (buf .entry)) at (rowBits r) ⌝ }
+    requires { ⌜ (r .kind < kinds) × HasRoom (now buf) at (4 + due (r .kind)) × Narrow r ⌝ }
+    ensures { λ _. ⌜ given buf ≡ put (lent buf) at (rowBits r) ⌝ }
 {
     let kind = r.kind;
     let w0 = width_of(kind, 0);
@@ -80,28 +83,34 @@ fn write_row(buf: &mut [u8], at: usize, r: Row)
     write_bits(buf, fourth, w3, r.fourth);
 }
 
+// The refusal of a row at position `at`.
+fn row_refusal(buf: &[u8], at: usize, r: Row) -> u8
+    requires { ⌜ r .kind < kinds ⌝ }
+    ensures { λ refusal. ⌜ refusal ≡ rowRefused (lent buf) at r ⌝ }
+{
+    if is_wide(r) {
+        return register::refusal::WIDE;
+    }
+    if room_of(buf, at) < KIND_WIDTH + due_of(r.kind) {
+        return refusal::SHORT_BUFFER;
+    }
+    0
+}
+
 // Writes a step at position `at`.
 pub fn write_step(buf: &mut [u8], at: usize, step: Step) -> Wrote
-    ensures { λ r. ⌜ (r ≡ wrote (stepRefused (now (buf .entry)) at step) at (stepBits step)) × (now (buf .exit) ≡ laid (now (buf .entry)) (stepRefused (now (buf .entry)) at step) at (stepBits step)) ⌝ }
+    ensures { λ r. ⌜ (r ≡ wrote (stepRefused (lent buf) at step) at (stepBits step))
+        × (given buf ≡ laid (lent buf) (stepRefused (lent buf) at step) at (stepBits step)) ⌝ }
 {
     let row = row_of(step);
-    let size = KIND_WIDTH + due_of(row.kind);
-    if is_wide(row) {
-        return Wrote {
-            refusal: register::refusal::WIDE,
-            next: at,
-        };
-    }
-    if room_of(buf, at) < size {
-        return Wrote {
-            refusal: refusal::SHORT_BUFFER,
-            next: at,
-        };
+    let refusal = row_refusal(buf, at, row);
+    if refusal != 0 {
+        return Wrote { refusal, next: at };
     }
     write_row(buf, at, row);
     Wrote {
-        refusal: 0,
-        next: at + size,
+        refusal,
+        next: at + KIND_WIDTH + due_of(row.kind),
     }
 }
 
@@ -114,7 +123,8 @@ fn end_width(at: usize) -> usize
 
 // Writes the end at position `at`, with its zero pad.
 pub fn write_end(buf: &mut [u8], at: usize) -> Wrote
-    ensures { λ r. ⌜ (r ≡ wrote (endRefused (now (buf .entry)) at) at (endBits at)) × (now (buf .exit) ≡ laid (now (buf .entry)) (endRefused (now (buf .entry)) at) at (endBits at)) ⌝ }
+    ensures { λ r. ⌜ (r ≡ wrote (endRefused (lent buf) at) at (endBits at))
+        × (given buf ≡ laid (lent buf) (endRefused (lent buf) at) at (endBits at)) ⌝ }
 {
     let size = end_width(at);
     if room_of(buf, at) < size {

@@ -10,31 +10,6 @@ use Rattle.packed_log.proofs.Windows.{unit-shift, field-window}
 use Rattle.packed_log.proofs.bits.read_bits.Statement.{statement}
 use Rattle.packed_log.proofs.bits.read_bits.Tie as tie
 
-returns : tie.Need-returns
-unfolding field num
-returns c = rw (c .if1 .taken) (refl, omega arith)
-
-window-at-requires : tie.Need-window-at-requires
-window-at-requires c κs = search needs
-
-sub-behind : tie.Need-sub-behind
-sub-behind c = search needs
-
-sub-behind-2 : tie.Need-sub-behind-2
-sub-behind-2 c = search needs
-
-cast-result : tie.Need-cast-result
-cast-result c = search needs
-
-shr-result : tie.Need-shr-result
-shr-result c = search needs
-
-cast-result-2 : tie.Need-cast-result-2
-cast-result-2 c = search needs
-
-shl-result : tie.Need-shl-result
-shl-result c = search needs
-
 rem-result : tie.Need-rem-result
 rem-result c =
     let width : ℕ = c .before .before .before .args .width in
@@ -57,17 +32,18 @@ returns-2 c =
     )
 
 pub read-bits-spec : {M : Type 1} → statement M
+unfolding field num
 read-bits-spec =
     tie.close
     (tie.spec
-    returns
-    window-at-requires
-    sub-behind
-    sub-behind-2
-    cast-result
-    shr-result
-    cast-result-2
-    shl-result
+    (λ c. rw (c .if1 .taken) (refl, omega arith))
+    (λ c κs. search needs)
+    (λ c. search needs)
+    (λ c. search needs)
+    (λ c. search needs)
+    (λ c. search needs)
+    (λ c. search needs)
+    (λ c. search needs)
     rem-result
     cast-result-3
     returns-2)

@@ -15,21 +15,6 @@ returns c =
     let bytes : Bytes (a .buf .now) = λ i. omega (arith, c .before .slice-known .given i) in
     rw (c .if1 .taken) (sym (put-none (a .buf .now) (a .at) bytes))
 
-sub-write-front : tie.Need-sub-write-front
-sub-write-front c = search needs
-
-part-write-front-start : tie.Need-part-write-front-start
-part-write-front-start c = search needs
-
-part-write-front-end : tie.Need-part-write-front-end
-part-write-front-end c = search needs
-
-write-front-requires : tie.Need-write-front-requires
-write-front-requires c κs = search needs
-
-same-length : tie.Need-same-length
-same-length c = search needs
-
 returns-2 : tie.Need-returns-2
 returns-2 c =
     let at-write-front = c .before .before in
@@ -43,9 +28,9 @@ write-bits-spec =
     tie.close
     (tie.spec
     returns
-    sub-write-front
-    part-write-front-start
-    part-write-front-end
-    write-front-requires
-    same-length
+    (λ c. search needs)
+    (λ c. search needs)
+    (λ c. search needs)
+    (λ c κs. search needs)
+    (λ c. search needs)
     returns-2)

@@ -8,30 +8,6 @@ use Rattle.packed_log.proofs.Windows.{put-window}
 use Rattle.packed_log.proofs.bits.write_front.Statement.{statement}
 use Rattle.packed_log.proofs.bits.write_front.Tie as tie
 
-window-at-requires : tie.Need-window-at-requires
-window-at-requires c κs = search needs
-
-sub-laid-over : tie.Need-sub-laid-over
-sub-laid-over c = search needs
-
-sub-laid-over-2 : tie.Need-sub-laid-over-2
-sub-laid-over-2 c = search needs
-
-laid-over-requires : tie.Need-laid-over-requires
-laid-over-requires c κs = search needs
-
-store-requires : tie.Need-store-requires
-store-requires c κs = search needs
-
-store-requires-2 : tie.Need-store-requires-2
-store-requires-2 c κs = search needs
-
-store-requires-3 : tie.Need-store-requires-3
-store-requires-3 c κs = search needs
-
-same-length : tie.Need-same-length
-same-length c = search needs
-
 returns : tie.Need-returns
 returns c =
     let at-store3 = c .before .before in
@@ -52,12 +28,12 @@ pub write-front-spec : {M : Type 1} → statement M
 write-front-spec =
     tie.close
     (tie.spec
-    window-at-requires
-    sub-laid-over
-    sub-laid-over-2
-    laid-over-requires
-    store-requires
-    store-requires-2
-    store-requires-3
-    same-length
+    (λ c κs. search needs)
+    (λ c. search needs)
+    (λ c. search needs)
+    (λ c κs. search needs)
+    (λ c κs. search needs)
+    (λ c κs. search needs)
+    (λ c κs. search needs)
+    (λ c. search needs)
     returns)

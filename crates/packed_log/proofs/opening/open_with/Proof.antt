@@ -8,44 +8,13 @@ use lib.Seq.{length-take-le}
 use Rattle.register.specs.Opening.{opening}
 use Rattle.packed_log.specs.Items.{left}
 use Rattle.packed_log.specs.Openings.{trustIn, leadersAt}
-use Rattle.packed_log.proofs.OpeningTests.{same-opening, leaders-refused, leaders-opened}
+use Rattle.packed_log.proofs.OpeningLaws.{leaders-refused, leaders-opened}
 use Rattle.packed_log.proofs.opening.open_with.Statement.{statement}
 use Rattle.packed_log.proofs.opening.open_with.Tie as tie
-
-add-from : tie.Need-add-from
-add-from c = search needs
-
-add-from-2 : tie.Need-add-from-2
-add-from-2 c = search needs
-
-there-of-requires : tie.Need-there-of-requires
-there-of-requires c κs = search needs
-
-read-leaders-requires : tie.Need-read-leaders-requires
-unfolding left
-read-leaders-requires c κs = (omega arith, omega arith, omega arith)
-
-read-trust-requires : tie.Need-read-trust-requires
-read-trust-requires c κs = search needs
 
 -- the leaders that are there have room in the table
 within : (c : tie.After-read-leaders) → c .before .there-of .result ≤ length (c .read-leaders .result)
 within c = omega (arith, c .read-leaders .ensures .0)
-
-array-share-prefix-leaders : tie.Need-array-share-prefix-leaders
-array-share-prefix-leaders c = within (c .before)
-
-slice-aggregate-open : tie.Need-slice-aggregate-open
-slice-aggregate-open c = sym (length-take-le _ _ (within (c .before .before)))
-
-open-requires : tie.Need-open-requires
-open-requires c κs = search needs
-
-leader-refusal-requires : tie.Need-leader-refusal-requires
-leader-refusal-requires c κs = search needs
-
-refused-requires : tie.Need-refused-requires
-refused-requires c κs = search needs
 
 -- the start, seen from where the leaders that are there have been opened
 abbrev start : tie.After-open → tie.Start
@@ -57,7 +26,7 @@ opens : (c : tie.After-open)
     (leadersAt (start c .args .log .now) (15 + start c .args .n) (c .before .before .before .before .there-of .result))
 opens c =
     let at-trust = c .before .before in
-    c .«open» .ensures ∙ same-opening (start c .args .n) _ _ _ _ (at-trust .read-trust .ensures) (at-trust .before .read-leaders .ensures .1)
+    rw (at-trust .read-trust .ensures, at-trust .before .read-leaders .ensures .1) at (c .«open» .ensures)
 
 returns : tie.Need-returns
 returns c =
@@ -68,12 +37,6 @@ returns c =
     c .refused .ensures
     ∙ leaders-refused (a .log .now) (a .n) (a .k) (begun .pre .0) (begun .pre .1) (begun .pre .2) (begun .pre .3) _ whole _ (opens at-open) _
     (c .before .before .leader-refusal .ensures) (c .before .if1 .taken)
-
-mul-t10 : tie.Need-mul-t10
-mul-t10 c = search needs
-
-add-t11 : tie.Need-add-t11
-add-t11 c = search needs
 
 returns-2 : tie.Need-returns-2
 returns-2 c =
@@ -88,17 +51,17 @@ pub open-with-spec : {M : Type 1} → statement M
 open-with-spec =
     tie.close
     (tie.spec
-    add-from
-    add-from-2
-    there-of-requires
-    read-leaders-requires
-    read-trust-requires
-    array-share-prefix-leaders
-    slice-aggregate-open
-    open-requires
-    leader-refusal-requires
-    refused-requires
+    (λ c. search needs)
+    (λ c. search needs)
+    (λ c κs. search needs)
+    (λ c κs. (omega arith, omega arith, omega arith))
+    (λ c κs. search needs)
+    (λ c. within (c .before))
+    (λ c. sym (length-take-le _ _ (within (c .before .before))))
+    (λ c κs. search needs)
+    (λ c κs. search needs)
+    (λ c κs. search needs)
     returns
-    mul-t10
-    add-t11
+    (λ c. search needs)
+    (λ c. search needs)
     returns-2)

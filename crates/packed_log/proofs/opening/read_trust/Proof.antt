@@ -5,7 +5,7 @@ use mathlib.Core.Path.{_≡_, refl, _∙_}
 use native.Mathlib.Omega.{arith}
 use Rattle.words.specs.Digits.{fill}
 use Rattle.packed_log.specs.Openings.{trustIn}
-use Rattle.packed_log.proofs.OpeningFields.{next-trust}
+use Rattle.packed_log.proofs.OpeningLaws.{next-trust}
 use Rattle.packed_log.proofs.opening.read_trust.Statement.{statement}
 use Rattle.packed_log.proofs.opening.read_trust.Tie as tie
 
@@ -14,28 +14,6 @@ Inv-loop log n trust₀ q₀ trust q = (q ≤ n) × (trust ≡ trustIn log q)
 
 abbrev μ-loop : tie.MeasureT-loop
 μ-loop log n trust₀ q₀ trust q = n - q
-
-loop-holds : tie.Need-loop-holds Inv-loop μ-loop
-unfolding trustIn fill
-loop-holds c = (search needs, refl)
-
-cast-read-bits : tie.Need-cast-read-bits Inv-loop μ-loop
-cast-read-bits c = search needs
-
-add-read-bits : tie.Need-add-read-bits Inv-loop μ-loop
-add-read-bits c = search needs
-
-read-bits-requires : tie.Need-read-bits-requires Inv-loop μ-loop
-read-bits-requires c κs = search needs
-
-cast-trust : tie.Need-cast-trust Inv-loop μ-loop
-cast-trust c = search needs
-
-cast-trust-2 : tie.Need-cast-trust-2 Inv-loop μ-loop
-cast-trust-2 c = search needs
-
-shl-trust : tie.Need-shl-trust Inv-loop μ-loop
-shl-trust c = search needs
 
 -- what the loop's step makes of the word
 abbrev sum : tie.After-read-bits Inv-loop μ-loop → ℕ
@@ -46,38 +24,27 @@ next : (c : tie.After-read-bits Inv-loop μ-loop)
     → (sum c ≡ trustIn (c .before .before .before .before .args .log .now) (c .before .before .loop .q + 1)) × (sum c < 4294967296)
 next c = next-trust _ (c .before .before .loop .q) _ _ (omega arith) (c .before .before .loop .inv .1) (c .read-bits .ensures .0)
 
-add-trust : tie.Need-add-trust Inv-loop μ-loop
-add-trust c = omega (arith, next c .1)
-
-add-q : tie.Need-add-q Inv-loop μ-loop
-add-q c = search needs
-
-loop-less : tie.Need-loop-less Inv-loop μ-loop
-loop-less c = search needs
-
-loop-again : tie.Need-loop-again Inv-loop μ-loop
-loop-again c = (search needs, next c .0)
-
 returns : tie.Need-returns Inv-loop μ-loop
 returns c =
     let end : c .before .loop .q ≡ c .before .before .before .args .n = omega arith in
     c .before .loop .inv .1 ∙ rw end
 
 pub read-trust-spec : {M : Type 1} → statement M
+unfolding trustIn fill
 read-trust-spec =
     tie.close
     (tie.spec
     Inv-loop
     μ-loop
-    loop-holds
-    cast-read-bits
-    add-read-bits
-    read-bits-requires
-    cast-trust
-    cast-trust-2
-    shl-trust
-    add-trust
-    add-q
-    loop-less
-    loop-again
+    (λ c. (search needs, refl))
+    (λ c. search needs)
+    (λ c. search needs)
+    (λ c κs. search needs)
+    (λ c. search needs)
+    (λ c. search needs)
+    (λ c. search needs)
+    (λ c. omega (arith, next c .1))
+    (λ c. search needs)
+    (λ c. search needs)
+    (λ c. (search needs, next c .0))
     returns)

@@ -4,21 +4,9 @@ use Prim.Native.Nat.{_+_, _*_, _≤_}
 use mathlib.Core.Path.{_≡_}
 use Rattle.packed_log.specs.Items.{left}
 use Rattle.packed_log.specs.Openings.{thereIn}
-use Rattle.packed_log.proofs.OpeningTests.{there-most}
+use Rattle.packed_log.proofs.OpeningLaws.{there-most}
 use Rattle.packed_log.proofs.opening.there_of.Statement.{statement}
 use Rattle.packed_log.proofs.opening.there_of.Tie as tie
-
-add-left-of : tie.Need-add-left-of
-add-left-of c = search needs
-
-add-left-of-2 : tie.Need-add-left-of-2
-add-left-of-2 c = search needs
-
-left-of-requires : tie.Need-left-of-requires
-left-of-requires c κs = search needs
-
-shorter-requires : tie.Need-shorter-requires
-shorter-requires c κs = search needs
 
 returns : tie.Need-returns
 unfolding thereIn
@@ -30,4 +18,4 @@ returns c =
 
 pub there-of-spec : {M : Type 1} → statement M
 there-of-spec =
-    tie.close (tie.spec add-left-of add-left-of-2 left-of-requires shorter-requires returns)
+    tie.close (tie.spec (λ c. search needs) (λ c. search needs) (λ c κs. search needs) (λ c κs. search needs) returns)

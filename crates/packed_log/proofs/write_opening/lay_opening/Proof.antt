@@ -1,30 +1,9 @@
 -- `packed_log::write_opening::lay_opening`: each part is laid where the one before it ends.
 use borrow.Author.Needs.{needs}
 use native.Mathlib.Omega.{arith}
-use Rattle.packed_log.proofs.OpeningWrites.{put-opening}
+use Rattle.packed_log.proofs.WritingLaws.{put-opening}
 use Rattle.packed_log.proofs.write_opening.lay_opening.Statement.{statement}
 use Rattle.packed_log.proofs.write_opening.lay_opening.Tie as tie
-
-add-after-count : tie.Need-add-after-count
-add-after-count c = search needs
-
-add-after-trust : tie.Need-add-after-trust
-add-after-trust c = search needs
-
-write-bits-requires : tie.Need-write-bits-requires
-write-bits-requires c κs = search needs
-
-write-trust-requires : tie.Need-write-trust-requires
-write-trust-requires c κs = search needs
-
-cast-write-bits : tie.Need-cast-write-bits
-cast-write-bits c = search needs
-
-write-bits-requires-2 : tie.Need-write-bits-requires-2
-write-bits-requires-2 c κs = search needs
-
-add-write-leaders : tie.Need-add-write-leaders
-add-write-leaders c = search needs
 
 write-leaders-requires : tie.Need-write-leaders-requires
 write-leaders-requires c κs =
@@ -32,10 +11,7 @@ write-leaders-requires c κs =
     let at-trust = at-length .before .before .before .before in
     let at-count = at-trust .before .before .before .before in
     let begun = at-count .before .before .before .before in
-    (begun .pre .1, begun .pre .2, omega arith, omega arith)
-
-same-length : tie.Need-same-length
-same-length c = search needs
+    (begun .pre .1, (omega arith, omega arith))
 
 returns : tie.Need-returns
 returns c =
@@ -51,13 +27,13 @@ pub lay-opening-spec : {M : Type 1} → statement M
 lay-opening-spec =
     tie.close
     (tie.spec
-    add-after-count
-    add-after-trust
-    write-bits-requires
-    write-trust-requires
-    cast-write-bits
-    write-bits-requires-2
-    add-write-leaders
+    (λ c. search needs)
+    (λ c. search needs)
+    (λ c κs. search needs)
+    (λ c κs. search needs)
+    (λ c. search needs)
+    (λ c κs. search needs)
+    (λ c. search needs)
     write-leaders-requires
-    same-length
+    (λ c. search needs)
     returns)

@@ -8,7 +8,7 @@ use lib.Seq.{take-length}
 use Rattle.packed_log.specs.Bits.{Bytes, put}
 use Rattle.packed_log.specs.Writing.{leaderBits}
 use Rattle.packed_log.proofs.BitsLaws.{put-none, length-put}
-use Rattle.packed_log.proofs.OpeningWrites.{next-leader-bits}
+use Rattle.packed_log.proofs.WritingLaws.{next-leader-bits}
 use Rattle.packed_log.proofs.write_opening.write_leaders.Statement.{statement}
 use Rattle.packed_log.proofs.write_opening.write_leaders.Tie as tie
 
@@ -25,35 +25,14 @@ loop-holds c =
     let bytes : Bytes (a .buf .now) = λ i. omega (arith, c .before .slice-known .given i) in
     (search needs, sym (put-none (a .buf .now) (a .at) bytes))
 
-mul-write-bits : tie.Need-mul-write-bits Inv-loop μ-loop
-mul-write-bits c = search needs
-
-add-write-bits : tie.Need-add-write-bits Inv-loop μ-loop
-add-write-bits c = search needs
-
-shared-slice-read-write-bits : tie.Need-shared-slice-read-write-bits Inv-loop μ-loop
-shared-slice-read-write-bits c = search needs
-
 -- a leader has room in five bits
 small : (c : tie.After-shared-slice-known2 Inv-loop μ-loop)
     → getD (c .before .before .before .before .before .before .args .schedule .now) (c .before .before .before .loop .i) 0 < 32
-small c = c .before .before .before .before .before .before .pre .0 _ (omega arith)
-
-cast-write-bits : tie.Need-cast-write-bits Inv-loop μ-loop
-cast-write-bits c = omega (arith, small c)
+small c = c .before .before .before .before .before .before .pre .0 .leader _ (omega arith)
 
 -- the buffer keeps its length
 long : (c : tie.At-loop Inv-loop μ-loop) → length (c .loop .buf) ≡ length (c .before .before .before .args .buf .now)
 long c = ap length (c .loop .inv .1) ∙ length-put _ _ _
-
-write-bits-requires : tie.Need-write-bits-requires Inv-loop μ-loop
-write-bits-requires c κs = (omega arith, omega (arith, long (c .before .before .before)), small c)
-
-add-i : tie.Need-add-i Inv-loop μ-loop
-add-i c = search needs
-
-loop-less : tie.Need-loop-less Inv-loop μ-loop
-loop-less c = search needs
 
 loop-again : tie.Need-loop-again Inv-loop μ-loop
 loop-again c =
@@ -61,12 +40,8 @@ loop-again c =
     let at-loop = at-write-bits .before .before .before .before in
     let a = at-loop .before .before .before .args in (
       search needs,
-      at-write-bits .write-bits .ensures
-          ∙ next-leader-bits (a .buf .now) (at-loop .loop .buf) (a .at) (at-loop .loop .i) (a .schedule .now) (omega arith) (at-loop .loop .inv .1),
+      rw (at-write-bits .write-bits .ensures) (next-leader-bits (a .buf .now) (at-loop .loop .buf) (a .at) (at-loop .loop .i) (a .schedule .now) (omega arith) (at-loop .loop .inv .1)),
     )
-
-same-length : tie.Need-same-length Inv-loop μ-loop
-same-length c = long (c .before)
 
 returns : tie.Need-returns Inv-loop μ-loop
 returns c =
@@ -81,13 +56,13 @@ write-leaders-spec =
     Inv-loop
     μ-loop
     loop-holds
-    mul-write-bits
-    add-write-bits
-    shared-slice-read-write-bits
-    cast-write-bits
-    write-bits-requires
-    add-i
-    loop-less
+    (λ c. search needs)
+    (λ c. search needs)
+    (λ c. search needs)
+    (λ c. omega (arith, small c))
+    (λ c κs. (omega arith, omega (arith, long (c .before .before .before)), small c))
+    (λ c. search needs)
+    (λ c. search needs)
     loop-again
-    same-length
+    (λ c. long (c .before))
     returns)

@@ -8,7 +8,7 @@ use Rattle.words.proofs.Digits.{digit-lt}
 use Rattle.packed_log.specs.Bits.{Bytes, put}
 use Rattle.packed_log.specs.Writing.{trustBits}
 use Rattle.packed_log.proofs.BitsLaws.{put-none, length-put}
-use Rattle.packed_log.proofs.OpeningWrites.{next-trust-bit}
+use Rattle.packed_log.proofs.WritingLaws.{next-trust-bit}
 use Rattle.packed_log.proofs.write_opening.write_trust.Statement.{statement}
 use Rattle.packed_log.proofs.write_opening.write_trust.Tie as tie
 
@@ -25,15 +25,6 @@ loop-holds c =
     let bytes : Bytes (a .buf .now) = λ i. omega (arith, c .slice-known .given i) in
     (search needs, sym (put-none (a .buf .now) (a .at) bytes))
 
-cast-write-bits : tie.Need-cast-write-bits Inv-loop μ-loop
-cast-write-bits c = search needs
-
-add-write-bits : tie.Need-add-write-bits Inv-loop μ-loop
-add-write-bits c = search needs
-
-bit-requires : tie.Need-bit-requires Inv-loop μ-loop
-bit-requires c κs = search needs
-
 -- a trust bit is below 2
 bit : (c : tie.After-bit Inv-loop μ-loop) → c .bit .result < 2
 bit c = rw (c .bit .ensures) (digit-lt 2 _ _ (omega arith))
@@ -42,18 +33,6 @@ bit c = rw (c .bit .ensures) (digit-lt 2 _ _ (omega arith))
 long : (c : tie.At-loop Inv-loop μ-loop) → length (c .loop .buf) ≡ length (c .before .before .args .buf .now)
 long c = ap length (c .loop .inv .1) ∙ length-put _ _ _
 
-cast-write-bits-2 : tie.Need-cast-write-bits-2 Inv-loop μ-loop
-cast-write-bits-2 c = omega (arith, bit c)
-
-write-bits-requires : tie.Need-write-bits-requires Inv-loop μ-loop
-write-bits-requires c κs = (omega arith, omega (arith, long (c .before .before .before)), bit c)
-
-add-q : tie.Need-add-q Inv-loop μ-loop
-add-q c = search needs
-
-loop-less : tie.Need-loop-less Inv-loop μ-loop
-loop-less c = search needs
-
 loop-again : tie.Need-loop-again Inv-loop μ-loop
 loop-again c =
     let at-write-bits = c .before .before in
@@ -61,12 +40,8 @@ loop-again c =
     let at-loop = at-bit .before .before .before in
     let a = at-loop .before .before .args in (
       search needs,
-      at-write-bits .write-bits .ensures
-          ∙ next-trust-bit (a .buf .now) (at-loop .loop .buf) (a .at) (at-loop .loop .q) (a .trust) _ (at-loop .loop .inv .1) (at-bit .bit .ensures),
+      rw (at-write-bits .write-bits .ensures) (next-trust-bit (a .buf .now) (at-loop .loop .buf) (a .at) (at-loop .loop .q) (a .trust) _ (at-loop .loop .inv .1) (at-bit .bit .ensures)),
     )
-
-same-length : tie.Need-same-length Inv-loop μ-loop
-same-length c = long (c .before)
 
 returns : tie.Need-returns Inv-loop μ-loop
 returns c =
@@ -80,13 +55,13 @@ write-trust-spec =
     Inv-loop
     μ-loop
     loop-holds
-    cast-write-bits
-    add-write-bits
-    bit-requires
-    cast-write-bits-2
-    write-bits-requires
-    add-q
-    loop-less
+    (λ c. search needs)
+    (λ c. search needs)
+    (λ c κs. search needs)
+    (λ c. omega (arith, bit c))
+    (λ c κs. (omega arith, omega (arith, long (c .before .before .before)), bit c))
+    (λ c. search needs)
+    (λ c. search needs)
     loop-again
-    same-length
+    (λ c. long (c .before))
     returns)

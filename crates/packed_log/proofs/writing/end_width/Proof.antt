@@ -5,14 +5,5 @@ use Rattle.packed_log.proofs.WritingLaws.{length-end}
 use Rattle.packed_log.proofs.writing.end_width.Statement.{statement}
 use Rattle.packed_log.proofs.writing.end_width.Tie as tie
 
-sub-result : tie.Need-sub-result
-sub-result c = search needs
-
-add-result : tie.Need-add-result
-add-result c = search needs
-
-returns : tie.Need-returns
-returns c = (rw (length-end (c .args .at)) (omega arith), omega arith)
-
 pub end-width-spec : {M : Type 1} → statement M
-end-width-spec = tie.close (tie.spec sub-result add-result returns)
+end-width-spec = tie.close (tie.spec (λ c. search needs) (λ c. search needs) (λ c. (rw (length-end (c .args .at)) (omega arith), omega arith)))

@@ -5,12 +5,6 @@ use Rattle.packed_log.proofs.WritingLaws.{head-fits}
 use Rattle.packed_log.proofs.writing.head_of.Statement.{statement}
 use Rattle.packed_log.proofs.writing.head_of.Tie as tie
 
-cast-result : tie.Need-cast-result
-cast-result c = search needs
-
-shl-result : tie.Need-shl-result
-shl-result c = search needs
-
 add-result : tie.Need-add-result
 add-result c =
     let fits = head-fits (c .args .kind) (c .args .width) (c .args .first) (c .pre .0) (c .pre .1) (c .pre .2) in
@@ -22,4 +16,4 @@ returns c =
     (fits .0, rw (fits .0) (fits .1))
 
 pub head-of-spec : {M : Type 1} → statement M
-head-of-spec = tie.close (tie.spec cast-result shl-result add-result returns)
+head-of-spec = tie.close (tie.spec (λ c. search needs) (λ c. search needs) add-result returns)

@@ -7,16 +7,10 @@ use lib.Pow.{pow-mono}
 use Rattle.packed_log.proofs.writing.is_over.Statement.{statement}
 use Rattle.packed_log.proofs.writing.is_over.Tie as tie
 
-cast-result : tie.Need-cast-result
-cast-result c = search needs
-
-shl-result : tie.Need-shl-result
-shl-result c = search needs
-
 returns : tie.Need-returns
 returns c =
     let small : 2 ^ c .args .width < 4294967296 = lt-of-le-of-lt (pow-mono {j = 16} (c .pre)) (omega arith) in
     rw (one-mul, mod-eq-of-lt small)
 
 pub is-over-spec : {M : Type 1} → statement M
-is-over-spec = tie.close (tie.spec cast-result shl-result returns)
+is-over-spec = tie.close (tie.spec (λ c. search needs) (λ c. search needs) returns)

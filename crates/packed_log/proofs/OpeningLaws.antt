@@ -1,24 +1,87 @@
--- Laws of the tests that the reading of an opening makes.
-use Prim.Native.Nat.{ℕ, _+_, _*_, _/_, _≤_, min}
+-- Laws of openings: what their tests say; the trust word bit by bit, the leaders one by one; and the tests that reading an opening makes.
+use Prim.Native.Nat.{ℕ, _≤_, _<_, zero, suc, _+_, _*_, _%_, _^_, _/_, min}
 use mathlib.Core.Path.{_≡_, refl, sym, ap, _∙_}
-use mathlib.Core.Bool.{Bool, true, false, not}
+use mathlib.Core.Bool.{true, false, Bool, not}
 use mathlib.Core.List.{List, [], _∷_, _++_}
-use native.Mathlib.Nat.{min-le-left, min-le-right}
-use native.Mathlib.Omega.{arith}
-use borrow.Author.Tests.{not-false, ltb-false, lt-ltb, ne-eqb}
-use lib.Dec.{eqb, ltb}
-use lib.ListN.{length}
-use Rattle.quorum.specs.Opening.{untrusted, tooMany, stray, openingRefusal}
-use Rattle.words.specs.Tests.{choose, both, any, between}
-use Rattle.words.specs.Refusals.{_⇒_, first}
-use Rattle.words.proofs.Tests.{clash, between-true, between-make}
+use borrow.Author.Tests.{not-false, leb-false, ltb-false, lt-ltb, ne-eqb}
+use lib.Dec.{leb, eqb, ltb}
+use lib.ListN.{length, getD, set, take, length-set}
+use Rattle.quorum.specs.Opening.{untrusted, tooMany, stray, openingTests, openingRefusal}
+use Rattle.words.specs.Tests.{both, between, choose, any}
+use Rattle.words.proofs.Tests.{any-none, between-true, clash, between-make}
 use Rattle.words.proofs.Refusals.{positive, Clear, first-clear, first-before, first-behind}
+use native.Mathlib.Nat.{add-zero, mod-eq-of-lt, min-le-left, min-le-right}
+use native.Mathlib.Numerals.{add-one}
+use native.Mathlib.Omega.{arith}
+use lib.Seq.{take-suc, take-set-le, getD-set-same}
+use Rattle.words.proofs.Digits.{pow-within, fill-next}
+use Rattle.packed_log.specs.Bits.{field}
+use Rattle.packed_log.specs.Openings.{trustIn, leadersAt, countIn, lengthIn, thereIn, frontTests, leaderTests, openingTestsIn, openingRefusalIn, opened, openedBy, openingIn}
+use Rattle.packed_log.proofs.BitsLaws.{field-lt}
+use Rattle.words.specs.Refusals.{_⇒_, first}
 use Rattle.register.specs.declared.table.Register.{Register}
 use Rattle.register.specs.declared.table.Opened.{Opened}
 use Rattle.register.specs.Opening.{fresh, closed, opening}
 use Rattle.packed_log.specs.Items.{left}
-use Rattle.packed_log.specs.Openings.{countIn, trustIn, lengthIn, leadersAt, thereIn, countTests, lengthTests, leaderTests, openingTestsIn, openingRefusalIn, opened, openedBy, openingIn}
-use Rattle.packed_log.proofs.OpeningFields.{length-leadersAt}
+
+-- what the tests of an opening say, and what that means
+pub record Accepted (n trust : ℕ) (schedule : List ℕ) : Type 0 where
+  pub offices : between 1 32 n ≡ true
+  pub epochs : between 1 256 (length schedule) ≡ true
+  pub leaders : stray n schedule ≡ false
+  pub third : tooMany (untrusted n trust) n ≡ false
+  pub count : (1 ≤ n) × (n ≤ 32)
+  pub turns : (1 ≤ length schedule) × (length schedule ≤ 256)
+  pub leader : (i : ℕ) → i < length schedule → getD schedule i 0 < n
+
+-- they say it where the opening is not refused
+pub accepted : (n trust : ℕ) (schedule : List ℕ) → openingRefusal n trust schedule ≡ 0 → Accepted n trust schedule
+unfolding openingRefusal stray Clear positive both
+accepted n trust schedule h =
+    let tests : Clear (openingTests n trust schedule) = first-clear (openingTests n trust schedule) refl h in
+    let offices : between 1 32 n ≡ true = not-false (between 1 32 n) (tests .0) in
+    let epochs : between 1 256 (length schedule) ≡ true = not-false (between 1 256 (length schedule)) (tests .1 .0) in
+    record {
+      offices = offices;
+      epochs = epochs;
+      leaders = tests .1 .1 .0;
+      third = tests .1 .1 .1 .0;
+      count = between-true 1 32 n offices;
+      turns = between-true 1 256 (length schedule) epochs;
+      leader = λ i l. leb-false n (getD schedule i 0) (any-none (λ j. leb n (getD schedule j 0)) (length schedule) i (tests .1 .1 .0) l);
+    }
+
+-- a loop's next turn: the trust bits of the offices below q are in the word, and now that of office q
+pub next-trust : (log : List ℕ) (q w d : ℕ) → q < 32 → w ≡ trustIn log q → d ≡ field log (6 + q) 1
+    → (w + d * 2 ^ q % 4294967296 ≡ trustIn log (q + 1)) × (w + d * 2 ^ q % 4294967296 < 4294967296)
+unfolding trustIn
+next-trust log q w d h ew ed =
+    let f : ℕ → ℕ = λ k. field log (6 + k) 1 in
+    let whole : 2 ^ q % 2 ^ 32 ≡ 2 ^ q = pow-within 2 q 32 (omega arith) h in
+    let next : (w + d * 2 ^ q ≡ trustIn log (q + 1)) × (w + d * 2 ^ q < 2 ^ 32) = fill-next 2 32 q w d (2 ^ q) f (omega arith) (λ k. field-lt log (6 + k) 1) h ew ed (sym whole) in
+    let small : d * 2 ^ q < 4294967296 = omega (arith, next .1) in
+    rw (mod-eq-of-lt small) next
+
+-- k leaders are k
+pub length-leadersAt : (log : List ℕ) (p k : ℕ) → length (leadersAt log p k) ≡ k
+unfolding leadersAt
+length-leadersAt log p zero = refl
+length-leadersAt log p (suc k) = ap suc (length-leadersAt log (p + 5) k)
+
+-- the leaders up to one more
+leaders-snoc : (log : List ℕ) (p k : ℕ) → leadersAt log p (suc k) ≡ leadersAt log p k ++ (field log (p + 5 * k) 5 ∷ [])
+unfolding leadersAt
+leaders-snoc log p zero = rw add-zero
+leaders-snoc log p (suc k) =
+    let e : p + 5 + 5 * k ≡ p + 5 * suc k = omega arith in
+    ap (λ r. field log p 5 ∷ r) (rw e at (leaders-snoc log (p + 5) k))
+
+-- a loop's next turn: the first i leaders are in the table, and the next is put in
+pub next-leader : (log : List ℕ) (p i x : ℕ) (l : List ℕ) → i < length l → take i l ≡ leadersAt log p i → x ≡ field log (p + 5 * i) 5
+    → take (i + 1) (set l i x) ≡ leadersAt log p (i + 1)
+next-leader log p i x l h before e =
+    let room : i < length (set l i x) = rw length-set h in
+    rw (add-one, take-suc (set l i x) i 0 room, take-set-le i l i x (omega arith), getD-set-same, before, e) (sym (leaders-snoc log p i))
 
 -- no more leaders are there than the schedule has, nor than there is room for
 pub there-most : (log : List ℕ) (n k : ℕ) → (thereIn log n k ≤ k) × (5 * thereIn log n k ≤ left log (15 + n))
@@ -68,11 +131,6 @@ none false false there k refusal e h = (ltb-false there k e, h)
 told-none : (there k refusal : ℕ) → choose (eqb refusal 3) 3 (choose (ltb there k) 27 refusal) ≡ 0 → (k ≤ there) × (refusal ≡ 0)
 told-none there k refusal h = none (eqb refusal 3) (ltb there k) there k refusal refl h
 
--- equal trust words and schedules open alike
-pub same-opening : (n trust trust' : ℕ) (schedule schedule' : List ℕ) → trust ≡ trust' → schedule ≡ schedule'
-    → opening n trust schedule ≡ opening n trust' schedule'
-same-opening n trust trust' schedule schedule' e f = rw (e, f)
-
 -- an opening that is not refused gives the fresh register
 opened-register : (n trust : ℕ) (schedule : List ℕ) (o : Opened) → o ≡ opening n trust schedule → o .refusal ≡ 0
     → o .register ≡ fresh n trust schedule
@@ -118,21 +176,23 @@ module _ (log : List ℕ) (n k : ℕ) (low : 1 ≤ n) (high : n ≤ 32) (some : 
         let held : o .register ≡ fresh n (trustIn log n) (leadersAt log (15 + n) k) = rw (← all) (opened-register n (trustIn log n) (leadersAt log (15 + n) there) o opens (clear .1)) in
         opened-whole log n k refusal (o .register) good held ∙ ap (openedBy log n k) same
 
--- what holds where nothing is refused up to n
-pub count-clear : (log : List ℕ) (n : ℕ) → first (countTests log n) ≡ 0 → (length log ≤ 65536) × (6 ≤ left log 0) × (1 ≤ n) × (n ≤ 32)
-unfolding Clear positive both
-count-clear log n h =
-    let tests : Clear (countTests log n) = first-clear (countTests log n) refl h in
-    let offices : (1 ≤ n) × (n ≤ 32) = between-true 1 32 n (not-false _ (tests .1 .1 .0)) in
-    (ltb-false 65536 (length log) (tests .0), ltb-false (left log 0) 6 (tests .1 .0), offices .0, offices .1)
+-- what holds where nothing is refused up to the schedule's length
+pub record Front (log : List ℕ) (n k : ℕ) : Type 0 where
+  pub small : length log ≤ 65536
+  pub offices : (1 ≤ n) × (n ≤ 32)
+  pub there : n + 9 ≤ left log 6
+  pub epochs : (1 ≤ k) × (k ≤ 256)
 
--- what holds where nothing is refused behind that, up to the schedule's length
-pub length-clear : (log : List ℕ) (n k : ℕ) → first (lengthTests log n k) ≡ 0 → (n + 9 ≤ left log 6) × (1 ≤ k) × (k ≤ 256)
+pub front-clear : (log : List ℕ) (n k : ℕ) → first (frontTests log n k) ≡ 0 → Front log n k
 unfolding Clear positive both
-length-clear log n k h =
-    let tests : Clear (lengthTests log n k) = first-clear (lengthTests log n k) refl h in
-    let epochs : (1 ≤ k) × (k ≤ 256) = between-true 1 256 k (not-false _ (tests .1 .0)) in
-    (ltb-false (left log 6) (n + 9) (tests .0), epochs .0, epochs .1)
+front-clear log n k h =
+    let tests : Clear (frontTests log n k) = first-clear (frontTests log n k) refl h in
+    record {
+      small = ltb-false 65536 (length log) (tests .0);
+      offices = between-true 1 32 n (not-false _ (tests .1 .1 .0));
+      there = ltb-false (left log 6) (n + 9) (tests .1 .1 .1 .0);
+      epochs = between-true 1 256 k (not-false _ (tests .1 .1 .1 .1 .0));
+    }
 
 module _ (log : List ℕ) (n k : ℕ) (count : n ≡ countIn log) (epochs : k ≡ lengthIn log n) where
   -- the opening, by the first of all the tests
@@ -140,25 +200,13 @@ module _ (log : List ℕ) (n k : ℕ) (count : n ≡ countIn log) (epochs : k �
   unfolding openingIn openingRefusalIn
   by-refusal refusal same = rw (same, epochs, count)
 
-  -- something is refused up to n
-  pub refused-early : (refusal : ℕ) → refusal ≡ first (countTests log n) → (refusal ≡ 0 → ⊥) → opened closed refusal 0 ≡ openingIn log
-  refused-early refusal same bad =
+  -- something is refused up to the schedule's length
+  pub front-refused : (refusal : ℕ) → refusal ≡ first (frontTests log n k) → (refusal ≡ 0 → ⊥) → opened closed refusal 0 ≡ openingIn log
+  front-refused refusal same bad =
       opened-refused log n k refusal bad
-      ∙ by-refusal refusal (same ∙ sym (first-before (countTests log n) (lengthTests log n k ++ leaderTests log n k) (λ none. bad (same ∙ none))))
+      ∙ by-refusal refusal (same ∙ sym (first-before (frontTests log n k) (leaderTests log n k) (λ none. bad (same ∙ none))))
 
-  -- nothing is
-  module _ (clear : first (countTests log n) ≡ 0) where
-    behind-count : first (openingTestsIn log n k) ≡ first (lengthTests log n k ++ leaderTests log n k)
-    unfolding positive both
-    behind-count = first-behind (countTests log n) (lengthTests log n k ++ leaderTests log n k) refl clear
-
-    -- something is refused up to the schedule's length
-    pub refused-late : (refusal : ℕ) → refusal ≡ first (lengthTests log n k) → (refusal ≡ 0 → ⊥) → opened closed refusal 0 ≡ openingIn log
-    refused-late refusal same bad =
-        opened-refused log n k refusal bad
-        ∙ by-refusal refusal (same ∙ sym (behind-count ∙ first-before (lengthTests log n k) (leaderTests log n k) (λ none. bad (same ∙ none))))
-
-    -- nothing is: the leaders decide
-    pub led-opening : first (lengthTests log n k) ≡ 0 → openedBy log n k (first (leaderTests log n k)) ≡ openingIn log
-    unfolding positive both
-    led-opening none = by-refusal _ (sym (behind-count ∙ first-behind (lengthTests log n k) (leaderTests log n k) refl none))
+  -- nothing is: the leaders decide
+  pub led-opening : first (frontTests log n k) ≡ 0 → openedBy log n k (first (leaderTests log n k)) ≡ openingIn log
+  unfolding positive both
+  led-opening none = by-refusal _ (sym (first-behind (frontTests log n k) (leaderTests log n k) refl none))

@@ -1,5 +1,5 @@
--- Calls of the writer, one behind the other, lay the joined row over the buffer.
-use Prim.Native.Nat.{ℕ, _+_, _*_, _≤_, min}
+-- The claims of specs/Claims: a case that is packed reads back, a log has one packed form, and the calls of the writer write it.
+use Prim.Native.Nat.{ℕ, _+_, _*_, _≤_}
 use mathlib.Core.Path.{_≡_, sym, ap, _∙_}
 use mathlib.Core.Bool.{Bool, false}
 use mathlib.Core.List.{List, [], _∷_, _++_, append-assoc, append-nil}
@@ -9,77 +9,77 @@ use borrow.Author.Tests.{le-ltb}
 use lib.ListN.{length, take, drop, length-append, length-take, take-append-drop, drop-of-length-le}
 use lib.Seq.{sets-eq}
 use Rattle.quorum.specs.Opening.{openingRefusal}
+use Rattle.words.specs.Refusals.{first}
 use Rattle.words.specs.Tests.{choose}
 use Rattle.words.proofs.Tests.{either-false-left, either-false-right}
 use Rattle.register.specs.declared.step.Step.{Step}
 use Rattle.packed_log.specs.Bits.{Bytes, bits, bytes, put}
 use Rattle.packed_log.specs.Rows.{rowOf}
-use Rattle.packed_log.specs.Writing.{stepBits, endBits, wide, short, openingRefused, stepRefused, endRefused, wrote, laid}
-use Rattle.packed_log.specs.Logs.{Case, stepsBits, bodyBits, packed, anyWide, Packable, Written, after, afterSteps, afterOpening, afterEnd, afterAll}
-use Rattle.packed_log.proofs.BitsLaws.{length-bits, length-put, put-put, put-left, put-none}
+use Rattle.packed_log.specs.Writing.{stepBits, endBits, wide, room, short, openingRefused, stepRefused, endRefused, wrote, laid}
+use Rattle.packed_log.specs.Logs.{Case, stepsBits, bodyBits, packed, anyWide, Packable, Filled, afterCall, afterStepCalls, afterOpeningCall, afterEndCall, afterCalls}
+use Rattle.packed_log.proofs.BitsLaws.{length-bits, length-put, put-put, put-left, put-none, bytes-bits}
 use Rattle.packed_log.proofs.Windows.{bytes-drop}
-use Rattle.packed_log.proofs.WritingLaws.{step-fits, end-fits}
-use Rattle.packed_log.proofs.OpeningWrites.{opening-fits}
-use Rattle.packed_log.proofs.LogsReadBack.{caseBits, packed-row, firstBits}
+use Rattle.packed_log.proofs.WritingLaws.{row-fits, end-fits, opening-room}
+use Rattle.packed_log.proofs.LogsReadBack.{caseBits, packed-row, firstBits, log-reads, log-stands}
+use Rattle.packed_log.specs.Claims.{ReadsBack, OneForm, CallsPack}
 
 -- the buffer with the row t laid over it from its start on, and the position behind t
-abbrev filled : (buffer : List ℕ) → (t : List Bool) → Written
+abbrev filled : (buffer : List ℕ) → (t : List Bool) → Filled
 filled buffer t = record { buffer = put buffer 0 t; at = length t }
 
 -- the writer has room in the buffer for the row t
 abbrev Room : (buffer : List ℕ) → (t : List Bool) → Type 0
-Room buffer t = length t ≤ 8 * min (length buffer) 65536
+Room buffer t = length t ≤ room buffer 0
 
 module _ (buffer : List ℕ) (t u : List Bool) where
   -- a call that is not refused lays its row behind those before it
-  call : (refusal : ℕ) → refusal ≡ 0 → after (filled buffer t) refusal u ≡ filled buffer (t ++ u)
-  unfolding after wrote laid choose
+  call : (refusal : ℕ) → refusal ≡ 0 → afterCall (filled buffer t) refusal u ≡ filled buffer (t ++ u)
+  unfolding afterCall wrote laid choose
   call refusal none =
       let joined : put (put buffer 0 t) (length t) u ≡ put buffer 0 (t ++ u) = rw zero-add at (put-put buffer 0 t u) in
       rw (none, joined, length-append t u)
 
   -- where there is room for two rows, there is for the first
   room-front : Room buffer (t ++ u) → Room buffer t
-  room-front room = omega (arith, rw length-append at room)
+  room-front enough = omega (arith, rw length-append at enough)
 
   -- where there is room for a row behind those before it, the buffer is not too short for it
   long-enough : Room buffer (t ++ u) → short (put buffer 0 t) (length t) u ≡ false
-  unfolding short
-  long-enough room =
-      let fits : length t + length u ≤ 8 * min (length buffer) 65536 = rw length-append at room in
+  long-enough enough =
+      let fits : length t + length u ≤ room buffer 0 = rw length-append at enough in
       le-ltb _ (length u) (rw length-put (omega arith))
 
 -- the call for an opening that is not refused lays it
 opening-call : (buffer : List ℕ) (c : Case) → Bytes buffer → openingRefusal (c .n) (c .trust) (c .schedule) ≡ 0
-    → Room buffer (firstBits c) → afterOpening buffer c ≡ filled buffer (firstBits c)
-unfolding afterOpening
-opening-call buffer c h opens room =
-    let enough : short buffer 0 (firstBits c) ≡ false = rw (put-none buffer 0 h) at (long-enough buffer [] (firstBits c) room) in
+    → Room buffer (firstBits c) → afterOpeningCall buffer c ≡ filled buffer (firstBits c)
+unfolding afterOpeningCall first choose
+opening-call buffer c h opens enough =
+    let long : short buffer 0 (firstBits c) ≡ false = rw (put-none buffer 0 h) at (long-enough buffer [] (firstBits c) enough) in
     let refusal : ℕ = openingRefused buffer 0 (c .n) (c .trust) (c .schedule) in
-    let none : refusal ≡ 0 = opening-fits buffer 0 (c .n) (c .trust) (c .schedule) opens enough in
+    let none : refusal ≡ 0 = opening-room buffer 0 (c .n) (c .trust) (c .schedule) opens ∙ rw long in
     rw (put-none buffer 0 h) at (call buffer [] (firstBits c) refusal none)
 
 -- the calls for steps within the widths lay them
 steps-calls : (buffer : List ℕ) (t : List Bool) (ss : List Step) → anyWide ss ≡ false → Room buffer (t ++ stepsBits ss)
-    → afterSteps (filled buffer t) ss ≡ filled buffer (t ++ stepsBits ss)
-unfolding afterSteps stepsBits anyWide
-steps-calls buffer t [] narrow room = rw append-nil
-steps-calls buffer t (s ∷ ss) narrow room =
+    → afterStepCalls (filled buffer t) ss ≡ filled buffer (t ++ stepsBits ss)
+unfolding afterStepCalls stepsBits anyWide
+steps-calls buffer t [] narrow enough = rw append-nil
+steps-calls buffer t (s ∷ ss) narrow enough =
     let joined : t ++ (stepBits s ++ stepsBits ss) ≡ t ++ stepBits s ++ stepsBits ss = sym (append-assoc t (stepBits s) (stepsBits ss)) in
-    let all : Room buffer (t ++ stepBits s ++ stepsBits ss) = rw joined at room in
+    let all : Room buffer (t ++ stepBits s ++ stepsBits ss) = rw joined at enough in
     let one : Room buffer (t ++ stepBits s) = room-front buffer (t ++ stepBits s) (stepsBits ss) all in
     let narrow-one : wide (rowOf s) ≡ false = either-false-left (wide (rowOf s)) (anyWide ss) narrow in
     let narrow-rest : anyWide ss ≡ false = either-false-right (wide (rowOf s)) (anyWide ss) narrow in
-    let none : stepRefused (put buffer 0 t) (length t) s ≡ 0 = step-fits (put buffer 0 t) (length t) s narrow-one (long-enough buffer t (stepBits s) one) in
+    let none : stepRefused (put buffer 0 t) (length t) s ≡ 0 = row-fits (put buffer 0 t) (length t) (rowOf s) narrow-one (long-enough buffer t (stepBits s) one) in
     rw (call buffer t (stepBits s) (stepRefused (put buffer 0 t) (length t) s) none, joined)
     (steps-calls buffer (t ++ stepBits s) ss narrow-rest all)
 
 -- the call for the end lays it
 end-call : (buffer : List ℕ) (t : List Bool) → Room buffer (t ++ endBits (length t))
-    → afterEnd (filled buffer t) ≡ filled buffer (t ++ endBits (length t))
-unfolding afterEnd
-end-call buffer t room =
-    let none : endRefused (put buffer 0 t) (length t) ≡ 0 = end-fits (put buffer 0 t) (length t) (long-enough buffer t (endBits (length t)) room) in
+    → afterEndCall (filled buffer t) ≡ filled buffer (t ++ endBits (length t))
+unfolding afterEndCall
+end-call buffer t enough =
+    let none : endRefused (put buffer 0 t) (length t) ≡ 0 = end-fits (put buffer 0 t) (length t) (long-enough buffer t (endBits (length t)) enough) in
     call buffer t (endBits (length t)) (endRefused (put buffer 0 t) (length t)) none
 
 -- a row that covers a whole buffer, laid over it, leaves just its own bytes
@@ -101,8 +101,8 @@ put-start buffer m t h long room =
 
 -- the calls for a case that can be packed, where the buffer has room, lay its packed form
 pub calls-lay : (buffer : List ℕ) → Bytes buffer → (c : Case) → Packable c → length (packed c) ≤ length buffer
-    → afterAll buffer c ≡ record { buffer = packed c ++ drop (length (packed c)) buffer; at = 8 * length (packed c) }
-unfolding afterAll bodyBits packed
+    → afterCalls buffer c ≡ record { buffer = packed c ++ drop (length (packed c)) buffer; at = 8 * length (packed c) }
+unfolding afterCalls bodyBits packed
 calls-lay buffer h c packable within =
     let m : ℕ = length (packed c) in
     let long : length (caseBits c) ≡ 8 * m = ap length (sym (packed-row c)) ∙ length-bits (packed c) in
@@ -117,3 +117,18 @@ calls-lay buffer h c packable within =
       start,
       long,
     )
+
+-- what is packed reads back as the same opening and steps
+pub reads-back : ReadsBack
+unfolding ReadsBack
+reads-back c h = log-reads (packed c) c (h .small) (h .opens) (h .narrow) (packed-row c)
+
+-- a log that reads as an opening with steps is its packed form, byte for byte
+pub one-form : OneForm
+unfolding OneForm packed
+one-form log bytes-log c h = sym (bytes-bits log bytes-log) ∙ ap bytes (log-stands log c h)
+
+-- the calls of the writer for an opening, its steps and the end write the packed form, leave the bytes behind it and give its last position
+pub calls-pack : CallsPack
+unfolding CallsPack
+calls-pack = calls-lay

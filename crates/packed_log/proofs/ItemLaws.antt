@@ -1,0 +1,296 @@
+-- Items: the three outcomes of what stands at a position; a step or the end that stands there is read there, and what is read there stands there.
+use Prim.Native.Nat.{ℕ, zero, suc, _+_, _*_, _≤_, _<_, _-_, _%_}
+use mathlib.Core.Path.{_≡_, refl, sym, _∙_}
+use mathlib.Core.Bool.{true, false, not, Bool}
+use mathlib.Core.List.{List, [], _++_, append-assoc, append-nil}
+use native.Mathlib.Omega.{arith}
+use borrow.Author.Tests.{ltb-false, leb-false, eqb-true, not-false, le-ltb, lt-leb, eq-eqb, ne-eqb, ltb-true, lt-ltb}
+use lib.Dec.{eqb, eqb·suc-zero, ltb}
+use lib.ListN.{length, drop, length-append, drop-of-length-le}
+use Rattle.words.specs.Tests.{choose, both}
+use Rattle.words.specs.Refusals.{first}
+use Rattle.words.proofs.Tests.{both-false, both-fails, both-left, both-right}
+use Rattle.words.proofs.Refusals.{positive, Clear, first-clear}
+use Rattle.packed_log.specs.declared.item.Read.{Read}
+use Rattle.packed_log.specs.declared.item.Skipped.{Skipped}
+use Rattle.packed_log.specs.Bits.{num, field, toBits, bits}
+use Rattle.packed_log.specs.Widths.{kinds, fields, width, due}
+use Rattle.packed_log.specs.Rows.{rowOf, stepOf, Narrow}
+use Rattle.packed_log.specs.Items.{left, kindAt, rowAt, padded, itemTests, refusalAt, skipped, skippedAt, read, withFields, itemAt, numbers, numbersAt}
+use Rattle.packed_log.proofs.BitsLaws.{field-lt, length-bits}
+use Rattle.packed_log.proofs.RowLaws.{row-step, step-row, narrow}
+use lib.Pow.{pow-pos}
+use Rattle.register.specs.declared.step.Step.{Step}
+use Rattle.packed_log.specs.declared.row.Row.{Row}
+use Rattle.packed_log.specs.declared.item.Item.{Item}
+use Rattle.packed_log.specs.Writing.{rowBits, stepBits, endBits, wide}
+use Rattle.packed_log.proofs.BitRows.{length-toBits, zero-bits}
+use Rattle.packed_log.proofs.WritingLaws.{length-row}
+use Rattle.packed_log.proofs.Standing.{Stands, left-stands, value-stands, value-behind, stands-field}
+use Rattle.packed_log.specs.declared.item.Item.the-variants as items
+
+-- what the tests of an item say where nothing is refused
+pub record Whole (log : List ℕ) (p : ℕ) : Type 0 where
+  pub small : length log ≤ 65536
+  pub head : 4 ≤ left log p
+  pub known : kindAt log p < kinds
+  pub fields : due (kindAt log p) ≤ left log (p + 4)
+  pub pad : kindAt log p ≡ 0 → padded log (p + 4) ≡ true
+
+module _ (log : List ℕ) (p : ℕ) where
+  -- nothing is refused where they say it
+  pub unrefused : Whole log p → refusalAt log p ≡ 0
+  unfolding refusalAt first choose
+  unrefused whole =
+      rw (
+        le-ltb 65536 (length log) (whole .small),
+        le-ltb (left log p) 4 (whole .head),
+        lt-leb kinds (kindAt log p) (whole .known),
+        le-ltb (left log (p + 4)) (due (kindAt log p)) (whole .fields),
+        both-fails (eqb (kindAt log p) 0) (not (padded log (p + 4))) (λ none. rw (whole .pad (eqb-true (kindAt log p) 0 none))),
+      )
+
+  -- and only there
+  pub whole : refusalAt log p ≡ 0 → Whole log p
+  unfolding refusalAt Clear positive both
+  whole none =
+      let k : ℕ = kindAt log p in
+      let tests : Clear (itemTests log p k) = first-clear (itemTests log p k) refl none in
+      record {
+        small = ltb-false 65536 (length log) (tests .0);
+        head = ltb-false (left log p) 4 (tests .1 .0);
+        known = leb-false kinds k (tests .1 .1 .0);
+        fields = ltb-false (left log (p + 4)) (due k) (tests .1 .1 .1 .0);
+        pad = λ end. not-false (padded log (p + 4)) (both-false (eqb k 0) _ (tests .1 .1 .1 .1 .0) (eq-eqb k 0 end));
+      }
+
+  module _ (good : Whole log p) where
+    -- the end that stands at position p
+    pub end-item : kindAt log p ≡ 0 → itemAt log p ≡ read items.End (8 * length log)
+    unfolding itemAt skippedAt withFields choose
+    end-item none = rw (unrefused good, none)
+
+    -- the step that stands there
+    pub step-item : 0 < kindAt log p
+        → itemAt log p ≡ read (items.Step (stepOf (rowAt log (kindAt log p) (p + 4)))) (p + 4 + due (kindAt log p))
+    unfolding itemAt skippedAt withFields choose
+    step-item some =
+        let k : ℕ = kindAt log p in
+        let step : eqb k 0 ≡ false = ne-eqb k 0 (omega arith) in
+        let here : skippedAt log p ≡ skipped k 0 (p + 4 + due k) = rw (unrefused good, step) in
+        rw (here, step)
+
+-- what was refused is skipped with its number
+pub refused-by : (log : List ℕ) (p k : ℕ) → k ≡ refusalAt log p → 0 < k → skipped 0 k p ≡ skippedAt log p
+unfolding skippedAt choose
+refused-by log p k e some = rw (← e, ne-eqb k 0 (omega arith))
+
+-- what was not is the end, or a step
+pub ended-by : (log : List ℕ) (p kind : ℕ) → kind ≡ kindAt log p → 0 ≡ refusalAt log p → kind ≡ 0
+    → skipped kind 0 (8 * length log) ≡ skippedAt log p
+unfolding skippedAt choose
+ended-by log p kind e none end = rw (← none, ← e, end)
+
+pub stepped-by : (log : List ℕ) (p kind size : ℕ) → kind ≡ kindAt log p → 0 ≡ refusalAt log p → (kind ≡ 0 → ⊥) → size ≡ due kind
+    → skipped kind 0 (p + 4 + size) ≡ skippedAt log p
+unfolding skippedAt choose
+stepped-by log p kind size e none step long = rw (← none, ← e, ne-eqb kind 0 step, long)
+
+-- the three outcomes of what stands at position p
+pub data Outcome (log : List ℕ) (p : ℕ) : Skipped → Type 0 where
+  refused : (number : ℕ) → 0 < number → Outcome log p (skipped 0 number p)
+  ended : Whole log p → kindAt log p ≡ 0 → Outcome log p (skipped 0 0 (8 * length log))
+  stepped : Whole log p → 0 < kindAt log p → Outcome log p (skipped (kindAt log p) 0 (p + 4 + due (kindAt log p)))
+
+-- there are no others
+by-kind : (log : List ℕ) (p kind : ℕ) → kindAt log p ≡ kind → Whole log p
+    → Outcome log p (choose (eqb (kindAt log p) 0) (skipped 0 0 (8 * length log)) (skipped (kindAt log p) 0 (p + 4 + due (kindAt log p))))
+unfolding choose
+by-kind log p zero e whole = rw (eq-eqb (kindAt log p) 0 e) (ended whole e)
+by-kind log p (suc k) e whole = rw (ne-eqb (kindAt log p) 0 (omega arith)) (stepped whole (omega arith))
+
+by-refusal : (log : List ℕ) (p refusal : ℕ) → refusalAt log p ≡ refusal → Outcome log p (skippedAt log p)
+unfolding skippedAt choose
+by-refusal log p zero e = rw (eq-eqb (refusalAt log p) 0 e) (by-kind log p (kindAt log p) refl (whole log p e))
+by-refusal log p (suc k) e = rw (ne-eqb (refusalAt log p) 0 (omega arith)) (refused (refusalAt log p) (omega arith))
+
+pub outcome : (log : List ℕ) (p : ℕ) → Outcome log p (skippedAt log p)
+outcome log p = by-refusal log p (refusalAt log p) refl
+
+-- the numbers of a row that is read have room in their columns
+pub narrow-row : (log : List ℕ) (p kind : ℕ) → Narrow (rowAt log kind p)
+unfolding rowAt
+narrow-row log p k =
+    record {
+      first = field-lt log p (width k 0);
+      second = field-lt log (p + width k 0) (width k 1);
+      third = field-lt log (p + width k 0 + width k 1) (width k 2);
+      fourth = field-lt log (p + width k 0 + width k 1 + width k 2) (width k 3);
+    }
+
+-- a step that is read has the row that it was read from
+pub same-row : (log : List ℕ) (p : ℕ) → Whole log p → 0 < kindAt log p → rowOf (stepOf (rowAt log (kindAt log p) (p + 4))) ≡ rowAt log (kindAt log p) (p + 4)
+unfolding rowAt
+same-row log p whole some = row-step (rowAt log (kindAt log p) (p + 4)) (narrow-row log (p + 4) (kindAt log p)) some (whole .known)
+
+-- the numbers of an item are those that stand where it was skipped
+numbers-by : (log : List ℕ) (p : ℕ) (x : Skipped) → Outcome log p x
+    → numbers (withFields log p x) ≡ record { refusal = x .refusal; row = rowAt log (x .kind) (p + 4) }
+unfolding numbers withFields choose rowAt width fields field num
+numbers-by log p x (refused (suc k) some) = rw eqb·suc-zero
+numbers-by log p x (ended whole none) = refl
+numbers-by log p x (stepped whole some) = rw (ne-eqb (kindAt log p) 0 (omega arith), same-row log p whole some)
+
+pub item-numbers : (log : List ℕ) (p : ℕ) → numbers (itemAt log p .item) ≡ numbersAt log p
+unfolding itemAt numbersAt
+item-numbers log p = numbers-by log p (skippedAt log p) (outcome log p)
+
+-- what was skipped, with its fields, is the item, and has its numbers
+pub item-read : (log : List ℕ) (p : ℕ) (x : Skipped) → x ≡ skippedAt log p → (r : Read) → read (withFields log p x) (x .next) ≡ r
+    → (r ≡ itemAt log p) × (numbers (r .item) ≡ numbersAt log p)
+unfolding itemAt
+item-read log p x here r e = (sym e ∙ rw here, rw (← e, here) (item-numbers log p))
+
+-- where a step was skipped, its fields can be read
+step-fields : (log : List ℕ) (p : ℕ) (x : Skipped) → Outcome log p x → (x .kind ≡ 0 → ⊥)
+    → (x .kind < kinds) × (p + 4 + due (x .kind) ≤ 8 * length log) × (length log ≤ 65536)
+step-fields log p x (refused k some) step = absurd (step refl)
+step-fields log p x (ended good none) step = absurd (step refl)
+step-fields log p x (stepped good some) step = (good .known, omega (arith, good .head, good .fields), good .small)
+
+pub step-there : (log : List ℕ) (p : ℕ) (x : Skipped) → x ≡ skippedAt log p → (x .kind ≡ 0 → ⊥)
+    → (x .kind < kinds) × (p + 4 + due (x .kind) ≤ 8 * length log) × (length log ≤ 65536)
+step-there log p x here step = step-fields log p x (rw here (outcome log p)) step
+
+-- a row of a known kind that stands at a position, and whose numbers have room, is read there
+row-reads : (log : List ℕ) (p : ℕ) (r : Row) (u : List Bool) → Narrow r → r .kind < kinds → Stands log p (rowBits r ++ u)
+    → (field log p 4 ≡ r .kind) × (rowAt log (r .kind) (p + 4) ≡ r)
+unfolding rowBits rowAt
+row-reads log p r u room known h =
+    let k : ℕ = r .kind in
+    let p2 : ℕ = p + 4 + width k 0 in
+    let p3 : ℕ = p2 + width k 1 in
+    let p4 : ℕ = p3 + width k 2 in
+    let from4 : List Bool = toBits (width k 3) (r .fourth) ++ u in
+    let from3 : List Bool = toBits (width k 2) (r .third) ++ from4 in
+    let from2 : List Bool = toBits (width k 1) (r .second) ++ from3 in
+    let from1 : List Bool = toBits (width k 0) (r .first) ++ from2 in
+    let at0 : Stands log p (toBits 4 k ++ from1) = simp append-assoc at h in
+    let at1 : Stands log (p + 4) from1 = value-behind log p 4 k from1 at0 in
+    let at2 : Stands log p2 from2 = value-behind log (p + 4) (width k 0) (r .first) from2 at1 in
+    let at3 : Stands log p3 from3 = value-behind log p2 (width k 1) (r .second) from3 at2 in
+    let at4 : Stands log p4 from4 = value-behind log p3 (width k 2) (r .third) from4 at3 in (
+      value-stands log p 4 k from1 at0 (omega arith),
+      rw (
+        value-stands log (p + 4) (width k 0) (r .first) from2 at1 (room .first),
+        value-stands log p2 (width k 1) (r .second) from3 at2 (room .second),
+        value-stands log p3 (width k 2) (r .third) from4 at3 (room .third),
+        value-stands log p4 (width k 3) (r .fourth) u at4 (room .fourth),
+      ),
+    )
+
+-- a step that stands at a position, within the widths, is read there
+pub step-reads : (log : List ℕ) (p : ℕ) (s : Step) (u : List Bool) → length log ≤ 65536 → wide (rowOf s) ≡ false
+    → Stands log p (stepBits s ++ u) → itemAt log p ≡ read (items.Step s) (p + length (stepBits s))
+step-reads log p s u small slim h =
+    let k : ℕ = rowOf s .kind in
+    let back : (kindAt log p ≡ k) × (rowAt log k (p + 4) ≡ rowOf s) = row-reads log p (rowOf s) u (narrow (rowOf s) slim) (step-row s .2) h in
+    let long : length (rowBits (rowOf s)) ≡ 4 + due k = length-row (rowOf s) in
+    let all : 8 * length log - p ≡ 4 + due k + length u = left-stands log p (rowBits (rowOf s) ++ u) h ∙ simp (length-append, length-row) in
+    let next : p + 4 + due k ≡ p + length (rowBits (rowOf s)) = omega arith in
+    let good : Whole log p =
+    record {
+      small = small;
+      head = omega arith;
+      known = rw (back .0) (step-row s .2);
+      fields = rw (back .0) (omega arith);
+      pad = λ none. absurd (omega (arith, step-row s .1));
+    } in
+    step-item log p good (rw (back .0) (step-row s .1)) ∙ rw (back .0, back .1, step-row s .0, next)
+
+-- how many zero bits the end at position p has behind its kind
+abbrev pad : (p : ℕ) → ℕ
+pad p = (8 - (p + 4) % 8) % 8
+
+-- the end as two fields of 0
+end-fields : (p : ℕ) → endBits p ≡ toBits 4 0 ++ (toBits (pad p) 0 ++ [])
+unfolding endBits
+end-fields p = rw (append-nil, zero-bits (pad p))
+
+-- the end that stands at a position is read there
+pub end-reads : (log : List ℕ) (p : ℕ) → length log ≤ 65536 → Stands log p (endBits p) → itemAt log p ≡ read items.End (8 * length log)
+unfolding padded both width fields
+end-reads log p small h =
+    let zeros : List Bool = toBits (pad p) 0 ++ [] in
+    let whole : Stands log p (toBits 4 0 ++ zeros) = h ∙ end-fields p in
+    let rest : Stands log (p + 4) zeros = value-behind log p 4 0 zeros whole in
+    let none : kindAt log p ≡ 0 = value-stands log p 4 0 zeros whole (omega arith) in
+    let all : 8 * length log - p ≡ 4 + pad p = left-stands log p _ whole ∙ simp (length-append, length-toBits) (omega arith) in
+    let behind : 8 * length log - (p + 4) ≡ pad p = omega arith in
+    let blank : field log (p + 4) (pad p) ≡ 0 = value-stands log (p + 4) (pad p) 0 [] rest (pow-pos (pad p)) in
+    end-item log p
+    (record {
+      small = small;
+      head = omega arith;
+      known = rw none (omega arith);
+      fields = rw none (omega arith);
+      pad = λ _. rw (behind, lt-ltb (pad p) 8 (omega arith), blank);
+    })
+    none
+
+-- what is to stand at position p where this item is read there, with this position behind it
+unfoldable pub Found : (log : List ℕ) → (p next : ℕ) → Item → Type 0
+Found log p next (items.Step s) = Stands log p (stepBits s ++ drop next (bits log)) × (next ≡ p + length (stepBits s))
+Found log p next items.End = Stands log p (endBits p)
+Found log p next (items.Refused k) = record {}
+
+module _ (log : List ℕ) (p : ℕ) where
+  -- the log has the bits of the row that is read at position p, where it has as many as that row takes
+  stands-row : p + 4 + due (kindAt log p) ≤ 8 * length log
+      → Stands log p (rowBits (rowAt log (kindAt log p) (p + 4)) ++ drop (p + 4 + due (kindAt log p)) (bits log))
+  unfolding rowBits rowAt
+  stands-row room =
+      let k : ℕ = kindAt log p in
+      let p2 : ℕ = p + 4 + width k 0 in
+      let p3 : ℕ = p2 + width k 1 in
+      let p4 : ℕ = p3 + width k 2 in
+      let behind : p + 4 + due k ≡ p4 + width k 3 = omega arith in
+      stands-field log p 4 (omega arith)
+      ∙ rw (
+        stands-field log (p + 4) (width k 0) (omega arith),
+        stands-field log p2 (width k 1) (omega arith),
+        stands-field log p3 (width k 2) (omega arith),
+        stands-field log p4 (width k 3) (omega arith),
+        behind,
+      ) (simp append-assoc)
+
+  -- it takes four bits and those that are due
+  length-row-at : (k q : ℕ) → length (rowBits (rowAt log k q)) ≡ 4 + due k
+  unfolding rowAt
+  length-row-at k q = length-row (rowAt log k q)
+
+  -- an end that is read stands there
+  end-found : Whole log p → kindAt log p ≡ 0 → Stands log p (endBits p)
+  unfolding padded
+  end-found whole none =
+      let zeros : padded log (p + 4) ≡ true = whole .pad none in
+      let k : ℕ = left log (p + 4) in
+      let less : k < 8 = ltb-true k 8 (both-left (ltb k 8) _ zeros) in
+      let blank : field log (p + 4) k ≡ 0 = eqb-true (field log (p + 4) k) 0 (both-right (ltb k 8) _ zeros) in
+      let last : pad p ≡ k = omega (arith, whole .head) in
+      let over : drop (p + 4 + k) (bits log) ≡ [] = drop-of-length-le (bits log) {i = p + 4 + k} (rw length-bits (omega arith)) in
+      stands-field log p 4 (omega (arith, whole .head))
+      ∙ rw (none, stands-field log (p + 4) k (omega (arith, whole .head)), blank, over) (sym (end-fields p ∙ rw last))
+
+  -- what is read stands there
+  found : (x : Skipped) → Outcome log p x → Found log p (x .next) (withFields log p x)
+  unfolding Found withFields choose
+  found x (refused (suc k) some) = rw eqb·suc-zero (record {})
+  found x (ended whole none) = end-found whole none
+  found x (stepped whole some) =
+      let same : rowOf (stepOf (rowAt log (kindAt log p) (p + 4))) ≡ rowAt log (kindAt log p) (p + 4) = same-row log p whole some in
+      rw (ne-eqb (kindAt log p) 0 (omega arith), same, length-row-at) (stands-row (omega (arith, whole .head, whole .fields)), omega arith)
+
+  pub item-found : Found log p (itemAt log p .next) (itemAt log p .item)
+  unfolding itemAt
+  item-found = found (skippedAt log p) (outcome log p)
