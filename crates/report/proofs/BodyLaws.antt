@@ -4,20 +4,18 @@ use mathlib.Core.Path.{_≡_, refl, ap, _∙_}
 use mathlib.Core.List.{List, [], _∷_}
 use native.Mathlib.Numerals.{add-one}
 use native.Mathlib.Omega.{arith}
-use borrow.Author.Tests.{ltb-false}
-use lib.Dec.{eqb, ltb}
+use borrow.Author.Tests.{ne-eqb}
+use lib.Dec.{eqb·suc-zero}
+use Rattle.words.specs.Tests.{choose}
 use lib.ListN.{length}
 use Rattle.register.specs.declared.step.Step.{Step}
 use Rattle.packed_log.specs.declared.item.Item.{Item}
 use Rattle.packed_log.specs.declared.item.Item.the-variants as items
-use Rattle.packed_log.specs.declared.item.Passed.{Passed}
 use Rattle.packed_log.specs.declared.item.Read.{Read}
-use Rattle.packed_log.specs.Bits.{field}
-use Rattle.packed_log.specs.Widths.{due}
-use Rattle.packed_log.specs.Items.{left, padded, endAt, stepAt, kindAt, itemAt, passedBy, passedOf}
+use Rattle.packed_log.specs.declared.item.Skipped.{Skipped}
+use Rattle.packed_log.specs.Items.{left, kindAt, skippedAt, withFields, itemAt}
 use Rattle.packed_log.specs.Logs.{ReadsFrom}
-use Rattle.packed_log.proofs.RowLaws.{step-kind}
-use Rattle.packed_log.proofs.ItemsReadBack.{chosen}
+use Rattle.packed_log.proofs.ItemLaws.{Outcome, refused, ended, stepped, outcome}
 use Rattle.report.specs.Bodies.{Body, begun, bodyFrom, bodyAt}
 
 -- what an item that is read at position p keeps to: a step takes four bits or more of a log that is not too long; a refusal has a number
@@ -26,34 +24,22 @@ Sound log p next (items.Step s) = (p + 4 ≤ next) × (next ≤ 8 * length log) 
 Sound log p next items.End = record {}
 Sound log p next (items.Refused number) = 0 < number
 
-module _ (log : List ℕ) (p : ℕ) where
-  -- what is read at position p keeps to that
-  abbrev Keeps : Read → Type 0
-  Keeps r = Sound log p (r .next) (r .item)
+-- so does every item
+sound : (log : List ℕ) (p : ℕ) (x : Skipped) → Outcome log p x → Sound log p (x .next) (withFields log p x)
+unfolding Sound withFields choose
+sound log p x (refused (suc k) some) = rw eqb·suc-zero (omega arith)
+sound log p x (ended good none) = record {}
+sound log p x (stepped good some) =
+    rw (ne-eqb (kindAt log p) 0 (omega arith)) (omega arith, omega (arith, good .head, good .fields), good .small)
 
-  -- so does a step of any kind
-  step-sound : (kind : ℕ) → length log ≤ 65536 → 4 ≤ left log p → Keeps (stepAt log kind p)
-  unfolding stepAt left Sound
-  step-sound kind small there =
-      chosen Keeps (ltb (left log (p + 4)) (due kind)) _ _ (λ _. omega arith)
-      (λ enough. let room : due kind ≤ left log (p + 4) = ltb-false (left log (p + 4)) (due kind) enough in (omega arith, omega arith, small))
-
-  -- so does every item
-  item-sound : Sound log p (itemAt log p .next) (itemAt log p .item)
-  unfolding itemAt kindAt endAt Sound
-  item-sound =
-      let k : ℕ = field log p 4 in
-      chosen Keeps (ltb 65536 (length log)) _ _ (λ _. omega arith)
-      (λ short. chosen Keeps (ltb (left log p) 4) _ _ (λ _. omega arith)
-      (λ there. chosen Keeps (ltb 8 k) _ _ (λ _. omega arith)
-      (λ _. chosen Keeps (eqb k 0) _ _
-      (λ _. chosen Keeps (padded log (p + 4)) _ _ (λ _. record {}) (λ _. omega arith))
-      (λ _. step-sound k (ltb-false 65536 (length log) short) (ltb-false (left log p) 4 there)))))
+item-sound : (log : List ℕ) (p : ℕ) → Sound log p (itemAt log p .next) (itemAt log p .item)
+unfolding itemAt
+item-sound log p = sound log p (skippedAt log p) (outcome log p)
 
 -- two bodies that begin with one item are the same where, behind a step, so are their rests
 same-rest : (log : List ℕ) (p next : ℕ) (item : Item) (x y : Body) → Sound log p next item
     → (left log next < left log p → x ≡ y) → begun item x ≡ begun item y
-unfolding Sound left begun
+unfolding Sound begun
 same-rest log p next (items.Step s) x y sound h = ap (λ (b : Body). begun (items.Step s) b) (h (omega arith))
 same-rest log p next items.End x y sound h = refl
 same-rest log p next (items.Refused number) x y sound h = refl
@@ -80,26 +66,25 @@ body-begins log p =
 pub body-read : (log : List ℕ) (p : ℕ) (read : Read) → read ≡ itemAt log p → (item : Item) → read .item ≡ item → bodyAt log p ≡ begun item (bodyAt log (read .next))
 body-read log p read here item is = body-begins log p ∙ rw (← here, is)
 
--- what passing over an item tells of the body from position p on, which begins with it: without a kind, the refusal of the body; with one,
+-- what skipping an item tells of the body from position p on, which begins with it: without a kind, the refusal of the body; with one,
 -- that the body behind the item has it, where fewer bits are left
-pub record Tells (log : List ℕ) (p : ℕ) (body : Body) (passed : Passed) : Type 0 where
-  pub closed : passed .kind ≡ 0 → body .refusal ≡ passed .refusal
-  pub behind : (passed .kind ≡ 0 → ⊥) → body .refusal ≡ bodyAt log (passed .next) .refusal
-  pub fewer : (passed .kind ≡ 0 → ⊥) → left log (passed .next) < left log p
+pub record Tells (log : List ℕ) (p : ℕ) (body : Body) (skipped : Skipped) : Type 0 where
+  pub closed : skipped .kind ≡ 0 → body .refusal ≡ skipped .refusal
+  pub behind : (skipped .kind ≡ 0 → ⊥) → body .refusal ≡ bodyAt log (skipped .next) .refusal
+  pub fewer : (skipped .kind ≡ 0 → ⊥) → left log (skipped .next) < left log p
 
--- each item tells that
-item-tells : (log : List ℕ) (p next : ℕ) (item : Item) → Sound log p next item → Tells log p (begun item (bodyAt log next)) (passedBy item next)
-unfolding Sound left begun passedBy
-item-tells log p next (items.Step s) sound =
-    record { closed = λ none. absurd (omega (arith, step-kind s)); behind = λ some. refl; fewer = λ some. omega arith }
-item-tells log p next items.End sound = record { closed = λ none. refl; behind = λ some. absurd (some refl); fewer = λ some. absurd (some refl) }
-item-tells log p next (items.Refused number) sound =
-    record { closed = λ none. refl; behind = λ some. absurd (some refl); fewer = λ some. absurd (some refl) }
+tells : (log : List ℕ) (p : ℕ) (x : Skipped) → Outcome log p x → Tells log p (begun (withFields log p x) (bodyAt log (x .next))) x
+unfolding withFields choose begun
+tells log p x (refused (suc k) some) =
+    rw eqb·suc-zero (record { closed = λ none. refl; behind = λ step. absurd (step refl); fewer = λ step. absurd (step refl) })
+tells log p x (ended good none) = record { closed = λ none. refl; behind = λ step. absurd (step refl); fewer = λ step. absurd (step refl) }
+tells log p x (stepped good some) =
+    rw (ne-eqb (kindAt log p) 0 (omega arith))
+    (record { closed = λ none. absurd (omega arith); behind = λ step. refl; fewer = λ step. omega (arith, good .head, good .fields) })
 
--- so does what has been passed over
-pub passed-tells : (log : List ℕ) (p : ℕ) (passed : Passed) → passed ≡ passedOf (itemAt log p) → Tells log p (bodyAt log p) passed
-unfolding passedOf
-passed-tells log p passed here = rw (here, body-begins log p) (item-tells log p _ _ (item-sound log p))
+pub skipped-tells : (log : List ℕ) (p : ℕ) (x : Skipped) → x ≡ skippedAt log p → Tells log p (bodyAt log p) x
+unfolding itemAt
+skipped-tells log p x here = rw (here, body-begins log p) (tells log p (skippedAt log p) (outcome log p))
 
 -- a log that reads as steps and the end has those steps as its body
 pub reads-body : (log : List ℕ) (p : ℕ) (ss : List Step) → ReadsFrom log p ss → bodyAt log p ≡ record { steps = ss; refusal = 0 }
@@ -111,7 +96,7 @@ reads-body log p (s ∷ ss) h = body-begins log p ∙ rw (h .0, reads-body log (
 item-reads : (log : List ℕ) (p : ℕ) (item : Item) (rest : Body) → itemAt log p .item ≡ item → Sound log p (itemAt log p .next) item
     → (left log (itemAt log p .next) < left log p → rest .refusal ≡ 0 → ReadsFrom log (itemAt log p .next) (rest .steps))
     → begun item rest .refusal ≡ 0 → ReadsFrom log p (begun item rest .steps)
-unfolding Sound left begun ReadsFrom
+unfolding Sound begun ReadsFrom
 item-reads log p (items.Step s) rest here sound behind none = (here, behind (omega arith) none)
 item-reads log p items.End rest here sound behind none = here
 item-reads log p (items.Refused number) rest here sound behind none = absurd (omega arith)
@@ -132,7 +117,7 @@ body-reads log p none = from-reads (left log p + 1) log p (omega arith) none
 -- a step takes four bits or more, so an item in front of a body adds no more steps than there is room for
 few-item : (log : List ℕ) (p next : ℕ) (item : Item) (rest : Body) → Sound log p next item → 4 * length (rest .steps) ≤ left log next
     → 4 * length (begun item rest .steps) ≤ min (left log p) 524288
-unfolding Sound left begun
+unfolding Sound begun
 few-item log p next (items.Step s) rest sound few = omega arith
 few-item log p next items.End rest sound few = omega arith
 few-item log p next (items.Refused number) rest sound few = omega arith

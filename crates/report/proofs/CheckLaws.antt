@@ -1,54 +1,29 @@
 -- Laws of the whole check: what a log's report is, and the buffer that it was written into.
-use Prim.Native.Nat.{ℕ, _+_}
+use Prim.Native.Nat.{ℕ}
 use mathlib.Core.Path.{_≡_, refl, sym, _∙_}
 use mathlib.Core.Bool.{Bool, true, false}
 use mathlib.Core.List.{List, _++_}
 use native.Mathlib.Nat.{zero-add}
-use borrow.Author.Tests.{eqb-true, eq-eqb, ne-eqb, leb-true}
+use borrow.Author.Tests.{eq-eqb, ne-eqb, leb-true}
 use lib.Dec.{eqb, leb}
 use lib.ListN.{length, drop, replicate}
 use Rattle.words.specs.Tests.{choose}
-use Rattle.register.specs.Opening.{opening}
-use Rattle.register.specs.Steps.{stepRule, quickRule}
-use Rattle.register.specs.Promises.{answers, QuickAgrees}
-use Rattle.register.proofs.FitOpening.{quick-agrees}
 use Rattle.packed_log.specs.declared.opening.Opening.{Opening}
-use Rattle.packed_log.specs.Openings.{countIn, trustIn, lengthIn, leadersAt, openingIn}
-use Rattle.packed_log.proofs.OpeningsReadBack.{opening-opens}
-use Rattle.report.specs.Text.{Written, logLine}
+use Rattle.packed_log.specs.Openings.{openingIn}
+use Rattle.report.specs.Text.{TextWritten, logLine}
 use Rattle.report.specs.Bodies.{bodyAt}
 use Rattle.report.specs.Reports.{runLines, bodyOf, faultOf, reportOf, givenLength, bufferAfter}
 use Rattle.report.proofs.TextLaws.{same-size, sets-front}
-use Rattle.report.proofs.RunLaws.{same-lines}
 
 -- a log that is refused has its number as its report
 report-refused : (log : List ℕ) (fault : ℕ) → fault ≡ faultOf log → (fault ≡ 0 → ⊥) → reportOf log ≡ logLine fault
 unfolding reportOf choose
 report-refused log fault same bad = rw (← same, ne-eqb fault 0 bad)
 
--- where nothing is refused, the opening is not
-opening-clear : (t : Bool) (first later : ℕ) → eqb first 0 ≡ t → choose t later first ≡ 0 → first ≡ 0
-unfolding choose
-opening-clear true first later e none = eqb-true first 0 e
-opening-clear false first later e none = none
-
--- from the register that a log opens, both rules answer alike
-quick-answers : (log : List ℕ) → openingIn log .refusal ≡ 0
-    → answers stepRule (openingIn log .register) (bodyOf log .steps) ≡ answers quickRule (openingIn log .register) (bodyOf log .steps)
-unfolding QuickAgrees
-quick-answers log clear =
-    let n : ℕ = countIn log in
-    let trust : ℕ = trustIn log n in
-    let schedule : List ℕ = leadersAt log (15 + n) (lengthIn log n) in
-    let opens : (opening n trust schedule .refusal ≡ 0) × (openingIn log .register ≡ opening n trust schedule .register) = opening-opens log clear in
-    rw (opens .1) (quick-agrees n trust schedule (bodyOf log .steps) (opens .0))
-
--- a log that is not refused has the lines of its steps and of the offices as its report, by the rule that is run
-report-run : (log : List ℕ) → faultOf log ≡ 0 → reportOf log ≡ runLines quickRule (openingIn log .register) 1 (bodyOf log .steps)
-unfolding reportOf faultOf choose
-report-run log none =
-    let clear : openingIn log .refusal ≡ 0 = opening-clear (eqb (openingIn log .refusal) 0) (openingIn log .refusal) (bodyOf log .refusal) refl none in
-    rw (eq-eqb (faultOf log) 0 none) (same-lines stepRule quickRule (openingIn log .register) 1 (bodyOf log .steps) (quick-answers log clear))
+-- a log that is not refused has the lines of its steps and of the offices as its report
+report-run : (log : List ℕ) → faultOf log ≡ 0 → reportOf log ≡ runLines (openingIn log .register) 1 (bodyOf log .steps)
+unfolding reportOf choose
+report-run log none = rw (eq-eqb (faultOf log) 0 none)
 
 -- where so much was written, and kept or cleared, the length that is given and the buffer that is left are those of the report
 abbrev Checked : (log before after : List ℕ) → (size : ℕ) → Type 0
@@ -57,7 +32,7 @@ Checked log before after size =
     × (choose (leb size (length after)) after (replicate (length after) 0) ≡ bufferAfter log before)
     × (size ≡ length (reportOf log))
 
-module _ (log before after : List ℕ) (size : ℕ) (written : Written before 0 (reportOf log) size after) where
+module _ (log before after : List ℕ) (size : ℕ) (written : TextWritten before 0 (reportOf log) size after) where
   -- all of the report was counted
   counted : size ≡ length (reportOf log)
   counted = written .counted ∙ zero-add _
@@ -84,12 +59,12 @@ module _ (log before after : List ℕ) (o : Opening) (fault size : ℕ) (opens :
     same-fault = told ∙ rw opens
 
     -- a log that is refused
-    pub checked-refused : (fault ≡ 0 → ⊥) → Written before 0 (logLine fault) size after → Checked log before after size
+    pub checked-refused : (fault ≡ 0 → ⊥) → TextWritten before 0 (logLine fault) size after → Checked log before after size
     checked-refused bad written = checked log before after size (rw (report-refused log fault same-fault bad) written)
 
     -- a log that is not
-    pub checked-run : fault ≡ 0 → Written before 0 (runLines quickRule (o .register) 1 (bodyAt log (o .next) .steps)) size after → Checked log before after size
+    pub checked-run : fault ≡ 0 → TextWritten before 0 (runLines (o .register) 1 (bodyAt log (o .next) .steps)) size after → Checked log before after size
     unfolding bodyOf
     checked-run good written =
-        let text : reportOf log ≡ runLines quickRule (o .register) 1 (bodyAt log (o .next) .steps) = report-run log (sym same-fault ∙ good) ∙ rw opens in
+        let text : reportOf log ≡ runLines (o .register) 1 (bodyAt log (o .next) .steps) = report-run log (sym same-fault ∙ good) ∙ rw opens in
         checked log before after size (rw text written)

@@ -11,10 +11,10 @@ use lib.ListN.{length, drop, set, length-append}
 use lib.Seq.{sets, sets-eq, length-sets, set-comm}
 use Rattle.words.specs.Tests.{choose}
 use Rattle.packed_log.proofs.BitRows.{sets-sets}
-use Rattle.report.specs.Text.{Written, digitsBy, decimal, numberThen, threeNumbers, stepLine, officeLine}
+use Rattle.report.specs.Text.{TextWritten, digitsBy, decimal, numberThen, threeNumbers, stepLine, officeLine}
 
 -- a text, and then another behind it, is the joined text
-pub then : {l m k : List ℕ} {p q r : ℕ} {t u : List ℕ} → Written l p t q m → Written m q u r k → Written l p (t ++ u) r k
+pub then : {l m k : List ℕ} {p q r : ℕ} {t u : List ℕ} → TextWritten l p t q m → TextWritten m q u r k → TextWritten l p (t ++ u) r k
 then {l} {m} {k} {p} {q} {r} {t} {u} first second =
     record {
       counted = second .counted ∙ rw (first .counted, length-append) (add-assoc _ _ _);
@@ -22,7 +22,7 @@ then {l} {m} {k} {p} {q} {r} {t} {u} first second =
     }
 
 -- a buffer that is written into keeps its length
-pub same-size : {l m t : List ℕ} {p q : ℕ} → Written l p t q m → length m ≡ length l
+pub same-size : {l m t : List ℕ} {p q : ℕ} → TextWritten l p t q m → length m ≡ length l
 same-size {l} {m} {t} {p} w = ap length (w .laid) ∙ length-sets l p t
 
 -- a text that is laid over a buffer from its start, where it fits: the text, and behind it the rest of the buffer

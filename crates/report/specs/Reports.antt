@@ -7,10 +7,11 @@ use Rattle.words.specs.Tests.{choose}
 use Rattle.register.specs.declared.step.Step.{Step}
 use Rattle.register.specs.declared.table.Register.{Register}
 use Rattle.register.specs.declared.table.Stepped.{Stepped}
+use Rattle.register.specs.declared.book.Book.{Book}
+use Rattle.register.specs.Books.{bookOf}
 use Rattle.register.specs.Tables.{trusted, finalOf}
-use Rattle.register.specs.Chains.{chainLength}
-use Rattle.register.specs.Steps.{stepRule}
-use Rattle.register.specs.Promises.{answers}
+use Rattle.register.specs.Chains.{lengthOf}
+use Rattle.register.specs.Runs.{afterSteps, answers}
 use Rattle.packed_log.specs.Openings.{openingIn}
 use Rattle.report.specs.Text.{stepLine, officeLine, logLine}
 use Rattle.report.specs.Bodies.{Body, bodyAt}
@@ -22,21 +23,18 @@ stepLines place (s ∷ ss) = stepLine place (s .refusal) (s .value) ++ stepLines
 
 -- the line of a trusted office: its number, its final block, the length of that block's chain; nothing for any other
 unfoldable pub officeText : Register → (q : ℕ) → List ℕ
-officeText r q = choose (trusted r q) (officeLine q (finalOf r q) (chainLength r (finalOf r q))) []
+officeText r q =
+    let book : Book = bookOf r in
+    choose (trusted book q) (officeLine q (finalOf book q) (lengthOf book (finalOf book q))) []
 
 -- a line for each trusted office with a number below q, ascending
 unfoldable pub officeLines : Register → (q : ℕ) → List ℕ
 officeLines r zero = []
 officeLines r (suc q) = officeLines r q ++ officeText r q
 
--- the register after some steps, each made on the register that the one before it gave
-unfoldable pub lastOf : (rule : Register → Step → Stepped) → Register → List Step → Register
-lastOf rule r [] = r
-lastOf rule r (s ∷ ss) = lastOf rule (rule r s .register) ss
-
 -- the lines of some steps, whose places are counted on from the one given, and then those of the offices, whose numbers are below 32
-unfoldable pub runLines : (rule : Register → Step → Stepped) → Register → (place : ℕ) → List Step → List ℕ
-runLines rule r place steps = stepLines place (answers rule r steps) ++ officeLines (lastOf rule r steps) 32
+unfoldable pub runLines : Register → (place : ℕ) → List Step → List ℕ
+runLines r place steps = stepLines place (answers r steps) ++ officeLines (afterSteps r steps) 32
 
 -- what stands behind the log's opening
 unfoldable pub bodyOf : (log : List ℕ) → Body
@@ -48,7 +46,7 @@ faultOf log = choose (eqb (openingIn log .refusal) 0) (bodyOf log .refusal) (ope
 
 -- the report: a log that does not read gives its number alone
 unfoldable pub reportOf : (log : List ℕ) → List ℕ
-reportOf log = choose (eqb (faultOf log) 0) (runLines stepRule (openingIn log .register) 1 (bodyOf log .steps)) (logLine (faultOf log))
+reportOf log = choose (eqb (faultOf log) 0) (runLines (openingIn log .register) 1 (bodyOf log .steps)) (logLine (faultOf log))
 
 -- the length that is returned: 0 where the report does not fit
 unfoldable pub givenLength : (log buffer : List ℕ) → ℕ

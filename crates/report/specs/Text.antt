@@ -37,6 +37,6 @@ unfoldable pub logLine : (number : ℕ) → List ℕ
 logLine number = (108 ∷ 111 ∷ 103 ∷ 32 ∷ []) ++ numberThen number 10
 
 -- the text is written into a buffer from position `at` on: what fits is laid, and all of it is counted
-pub record Written (before : List ℕ) (at : ℕ) (text : List ℕ) (next : ℕ) (after : List ℕ) : Type 0 where
+pub record TextWritten (before : List ℕ) (at : ℕ) (text : List ℕ) (next : ℕ) (after : List ℕ) : Type 0 where
   pub counted : next ≡ at + length text
   pub laid : after ≡ sets before at text

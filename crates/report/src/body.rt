@@ -1,26 +1,27 @@
 // What a log holds behind its opening: steps, up to the end or to a refusal.
 ghost use mathlib.Core.Path.{_≡_};
 ghost use lib.ListN.{length};
+ghost use Rattle.words.specs.Lent.{lent};
 ghost use Rattle.report.specs.Bodies.{bodyAt};
 ghost use Rattle.report.specs.Parts.{stepsOf, PartAt};
 use packed_log::Item;
-use packed_log::item::pass_item;
 use packed_log::item::read_item;
+use packed_log::item::skip_item;
 use register::Step;
 use register::run::BATCH;
 use register::run::Batch;
 
 // The refusal that reading the log from position `at` on ends with; 0 where it ends with the end.
 pub(crate) fn fault_from(log: &[u8], at: usize) -> u8
-    ensures { λ r. ⌜ r ≡ bodyAt (now (log .entry)) at .refusal ⌝ }
+    ensures { λ r. ⌜ r ≡ bodyAt (lent log) at .refusal ⌝ }
 {
     let mut next = at;
     loop {
-        let passed = pass_item(log, next);
-        if passed.kind == 0 {
-            return passed.refusal;
+        let skipped = skip_item(log, next);
+        if skipped.kind == 0 {
+            return skipped.refusal;
         }
-        next = passed.next;
+        next = skipped.next;
     }
 }
 
@@ -38,7 +39,7 @@ pub(crate) struct Part {
 
 // The steps from position `at` on, up to a batch of them. Each item is read once.
 pub(crate) fn read_part(log: &[u8], at: usize) -> Part
-    ensures { λ r. ⌜ PartAt (now (log .entry)) at r ⌝ }
+    ensures { λ r. ⌜ PartAt (lent log) at r ⌝ }
 {
     let empty = Slot {
         step: Step::Advance,

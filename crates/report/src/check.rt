@@ -3,6 +3,7 @@ ghost use mathlib.Core.Path.{_≡_};
 ghost use Prim.Native.Nat.{_≤_};
 ghost use lib.Dec.{eqb, leb};
 ghost use lib.ListN.{length, replicate};
+ghost use Rattle.words.specs.Lent.{lent, given};
 ghost use Rattle.words.specs.Tests.{choose};
 ghost use Rattle.report.specs.Bodies.{bodyAt};
 ghost use Rattle.report.specs.Reports.{reportOf, givenLength, bufferAfter};
@@ -14,7 +15,8 @@ use packed_log::opening::read_opening;
 
 // The report's length where it fits; else 0, and the buffer is all zero.
 fn fitted(report: &mut [u8], size: usize) -> usize
-    ensures { λ r. ⌜ (r ≡ choose (leb size (length (now (report .entry)))) size 0) × (now (report .exit) ≡ choose (leb size (length (now (report .entry)))) (now (report .entry)) (replicate (length (now (report .entry))) 0)) ⌝ }
+    ensures { λ r. ⌜ (r ≡ choose (leb size (length (lent report))) size 0)
+        × (given report ≡ choose (leb size (length (lent report))) (lent report) (replicate (length (lent report)) 0)) ⌝ }
 {
     if size <= report.len() {
         return size;
@@ -25,7 +27,7 @@ fn fitted(report: &mut [u8], size: usize) -> usize
 
 // The number that a log is refused with: that of its opening, else that of what stands behind it.
 fn fault_of(log: &[u8], opening: u8, next: usize) -> u8
-    ensures { λ r. ⌜ r ≡ choose (eqb opening 0) (bodyAt (now (log .entry)) next .refusal) opening ⌝ }
+    ensures { λ r. ⌜ r ≡ choose (eqb opening 0) (bodyAt (lent log) next .refusal) opening ⌝ }
 {
     if opening == 0 {
         return fault_from(log, next);
@@ -36,7 +38,9 @@ fn fault_of(log: &[u8], opening: u8, next: usize) -> u8
 // Checks a log, writes the report into the buffer and gives its length. Where it does not fit, that is 0, and the buffer is all zero. No
 // report is longer than 2,228,800 bytes.
 pub fn check(log: &[u8], report: &mut [u8]) -> usize
-    ensures { λ r. ⌜ (r ≡ givenLength (now (log .entry)) (now (report .entry))) × (now (report .exit) ≡ bufferAfter (now (log .entry)) (now (report .entry))) × (length (reportOf (now (log .entry))) ≤ 2228800) ⌝ }
+    ensures { λ r. ⌜ (r ≡ givenLength (lent log) (lent report))
+        × (given report ≡ bufferAfter (lent log) (lent report))
+        × (length (reportOf (lent log)) ≤ 2228800) ⌝ }
 {
     let opening = read_opening(log);
     let fault = fault_of(log, opening.refusal, opening.next);

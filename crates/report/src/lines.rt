@@ -1,6 +1,7 @@
 // The lines of a report, many at a time.
 ghost use Prim.Native.Nat.{_+_, _*_, _^_, _≤_, _<_};
-ghost use Rattle.report.specs.Text.{Written};
+ghost use Rattle.words.specs.Lent.{lent, given};
+ghost use Rattle.report.specs.Text.{TextWritten};
 ghost use Rattle.report.specs.Reports.{officeText, officeLines};
 ghost use Rattle.report.specs.Batches.{batchLines};
 use crate::text::write_office_line;
@@ -18,7 +19,8 @@ pub(crate) fn write_batch<'a>(
     count: usize,
 ) -> usize
     requires { ⌜ (count ≤ 256) × (place + count ≤ 131073) × (at ≤ 2 ^ 31) ⌝ }
-    ensures { λ r. ⌜ (Written (now (report .entry)) at (batchLines place (now (refusals .entry)) (now (values .entry)) count) r (now (report .exit))) × (r ≤ at + 17 * count) ⌝ }
+    ensures { λ r. ⌜ TextWritten (lent report) at (batchLines place (lent refusals) (lent values) count) r (given report)
+        × (r ≤ at + 17 * count) ⌝ }
 {
     let mut next = at;
     let mut i = 0;
@@ -32,7 +34,7 @@ pub(crate) fn write_batch<'a>(
 // Writes the line of a trusted office; nothing for any other.
 fn write_office(report: &mut [u8], at: usize, register: Register, q: u8) -> usize
     requires { ⌜ (q < 32) × (at ≤ 2 ^ 31) ⌝ }
-    ensures { λ r. ⌜ (Written (now (report .entry)) at (officeText register q) r (now (report .exit))) × (r ≤ at + 18) ⌝ }
+    ensures { λ r. ⌜ TextWritten (lent report) at (officeText register q) r (given report) × (r ≤ at + 18) ⌝ }
 {
     if !register.is_trusted(Office(q)) {
         return at;
@@ -44,7 +46,7 @@ fn write_office(report: &mut [u8], at: usize, register: Register, q: u8) -> usiz
 // Writes the lines of the trusted offices, ascending.
 pub(crate) fn write_offices(report: &mut [u8], at: usize, register: Register) -> usize
     requires { ⌜ at ≤ 2 ^ 30 ⌝ }
-    ensures { λ r. ⌜ (Written (now (report .entry)) at (officeLines register 32) r (now (report .exit))) × (r ≤ at + 576) ⌝ }
+    ensures { λ r. ⌜ TextWritten (lent report) at (officeLines register 32) r (given report) × (r ≤ at + 576) ⌝ }
 {
     let mut next = at;
     let mut q = 0;

@@ -1,7 +1,7 @@
 // Running the steps of a log.
 ghost use Prim.Native.Nat.{_≤_};
-ghost use Rattle.register.specs.Steps.{quickRule};
-ghost use Rattle.report.specs.Text.{Written};
+ghost use Rattle.words.specs.Lent.{lent, given};
+ghost use Rattle.report.specs.Text.{TextWritten};
 ghost use Rattle.report.specs.Bodies.{bodyAt};
 ghost use Rattle.report.specs.Reports.{runLines};
 use crate::body::read_part;
@@ -12,7 +12,9 @@ use register::Register;
 
 // Writes the lines of the steps that stand from position `from` on, run from that register, and then those of the offices.
 pub(crate) fn write_run(report: &mut [u8], log: &[u8], from: usize, register: Register) -> usize
-    ensures { λ r. ⌜ (Written (now (report .entry)) 0 (runLines quickRule register 1 (bodyAt (now (log .entry)) from .steps)) r (now (report .exit))) × (r ≤ 2228800) ⌝ }
+    ensures { λ r. ⌜
+        TextWritten (lent report) 0 (runLines register 1 (bodyAt (lent log) from .steps)) r (given report)
+        × (r ≤ 2228800) ⌝ }
 {
     let mut current = register;
     let mut at = from;

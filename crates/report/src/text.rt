@@ -4,12 +4,13 @@ ghost use mathlib.Core.Path.{_≡_};
 ghost use Prim.Native.Nat.{_+_, _^_, _≤_, _<_};
 ghost use mathlib.Core.List.{_∷_, []};
 ghost use lib.ListN.{length, replicate, set};
-ghost use Rattle.report.specs.Text.{Written, decimal, numberThen, threeNumbers, stepLine, officeLine, logLine};
+ghost use Rattle.words.specs.Lent.{lent, given};
+ghost use Rattle.report.specs.Text.{TextWritten, decimal, numberThen, threeNumbers, stepLine, officeLine, logLine};
 
 // Writes one byte.
 fn put(report: &mut [u8], at: usize, byte: u8) -> usize
     requires { ⌜ at + 1 < 2 ^ 64 ⌝ }
-    ensures { λ r. ⌜ Written (now (report .entry)) at (byte ∷ []) r (now (report .exit)) ⌝ }
+    ensures { λ r. ⌜ TextWritten (lent report) at (byte ∷ []) r (given report) ⌝ }
 {
     if at < report.len() {
         report[at] = byte;
@@ -19,7 +20,7 @@ fn put(report: &mut [u8], at: usize, byte: u8) -> usize
 
 // Makes every byte of the buffer 0.
 pub(crate) fn clear(report: &mut [u8])
-    ensures { λ _. ⌜ now (report .exit) ≡ replicate (length (now (report .entry))) 0 ⌝ }
+    ensures { λ _. ⌜ given report ≡ replicate (length (lent report)) 0 ⌝ }
 {
     let mut i = 0;
     while i < report.len() {
@@ -30,7 +31,7 @@ pub(crate) fn clear(report: &mut [u8])
 // Writes a word.
 fn write_word(report: &mut [u8], at: usize, word: &[u8]) -> usize
     requires { ⌜ at + length (now word) < 2 ^ 64 ⌝ }
-    ensures { λ r. ⌜ Written (now (report .entry)) at (now (word .entry)) r (now (report .exit)) ⌝ }
+    ensures { λ r. ⌜ TextWritten (lent report) at (lent word) r (given report) ⌝ }
 {
     let mut next = at;
     let mut i = 0;
@@ -60,7 +61,7 @@ fn digits_of(n: usize) -> usize
 // Puts one digit at its place.
 fn put_digit(report: &mut [u8], at: usize, digit: usize)
     requires { ⌜ (at + 1 < 2 ^ 64) × (digit < 10) ⌝ }
-    ensures { λ _. ⌜ now (report .exit) ≡ set (now (report .entry)) at (48 + digit) ⌝ }
+    ensures { λ _. ⌜ given report ≡ set (lent report) at (48 + digit) ⌝ }
 {
     put(report, at, b'0' + digit as u8);
 }
@@ -68,7 +69,7 @@ fn put_digit(report: &mut [u8], at: usize, digit: usize)
 // Writes a number, from its last digit to its first.
 fn write_decimal(report: &mut [u8], at: usize, n: usize) -> usize
     requires { ⌜ at + 20 < 2 ^ 64 ⌝ }
-    ensures { λ r. ⌜ Written (now (report .entry)) at (decimal n) r (now (report .exit)) × (r ≤ at + 20) ⌝ }
+    ensures { λ r. ⌜ TextWritten (lent report) at (decimal n) r (given report) × (r ≤ at + 20) ⌝ }
 {
     let next = at + digits_of(n);
     let mut place = next;
@@ -85,7 +86,7 @@ fn write_decimal(report: &mut [u8], at: usize, n: usize) -> usize
 // Writes a number and one byte behind it.
 fn write_number(report: &mut [u8], at: usize, n: usize, behind: u8) -> usize
     requires { ⌜ at + 21 < 2 ^ 64 ⌝ }
-    ensures { λ r. ⌜ Written (now (report .entry)) at (numberThen n behind) r (now (report .exit)) × (r ≤ at + 21) ⌝ }
+    ensures { λ r. ⌜ TextWritten (lent report) at (numberThen n behind) r (given report) × (r ≤ at + 21) ⌝ }
 {
     let next = write_decimal(report, at, n);
     put(report, next, behind)
@@ -94,7 +95,7 @@ fn write_number(report: &mut [u8], at: usize, n: usize, behind: u8) -> usize
 // Writes three numbers and the line's end.
 fn write_three(report: &mut [u8], at: usize, first: usize, second: usize, third: usize) -> usize
     requires { ⌜ at + 63 < 2 ^ 64 ⌝ }
-    ensures { λ r. ⌜ Written (now (report .entry)) at (threeNumbers first second third) r (now (report .exit)) ⌝ }
+    ensures { λ r. ⌜ TextWritten (lent report) at (threeNumbers first second third) r (given report) ⌝ }
 {
     let after_first = write_number(report, at, first, b' ');
     let after_second = write_number(report, after_first, second, b' ');
@@ -110,7 +111,7 @@ pub(crate) fn write_step_line(
     value: u16,
 ) -> usize
     requires { ⌜ (at ≤ 2 ^ 32) × (place ≤ 131072) ⌝ }
-    ensures { λ r. ⌜ Written (now (report .entry)) at (stepLine place refusal value) r (now (report .exit)) × (r ≤ at + 17) ⌝ }
+    ensures { λ r. ⌜ TextWritten (lent report) at (stepLine place refusal value) r (given report) × (r ≤ at + 17) ⌝ }
 {
     write_three(report, at, place, refusal as usize, value as usize)
 }
@@ -124,7 +125,7 @@ pub(crate) fn write_office_line(
     size: u8,
 ) -> usize
     requires { ⌜ (at ≤ 2 ^ 32) × (office < 32) ⌝ }
-    ensures { λ r. ⌜ Written (now (report .entry)) at (officeLine office last size) r (now (report .exit)) × (r ≤ at + 18) ⌝ }
+    ensures { λ r. ⌜ TextWritten (lent report) at (officeLine office last size) r (given report) × (r ≤ at + 18) ⌝ }
 {
     let next = write_word(report, at, b"office ");
     write_three(report, next, office as usize, last as usize, size as usize)
@@ -133,7 +134,7 @@ pub(crate) fn write_office_line(
 // Writes the line of a refused log: the number of the refusal.
 pub(crate) fn write_log_line(report: &mut [u8], at: usize, number: u8) -> usize
     requires { ⌜ at ≤ 2 ^ 32 ⌝ }
-    ensures { λ r. ⌜ (Written (now (report .entry)) at (logLine number) r (now (report .exit))) × (r ≤ at + 25) ⌝ }
+    ensures { λ r. ⌜ TextWritten (lent report) at (logLine number) r (given report) × (r ≤ at + 25) ⌝ }
 {
     let next = write_word(report, at, b"log ");
     write_number(report, next, number as usize, b'\n')

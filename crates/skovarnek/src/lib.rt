@@ -8,7 +8,9 @@ ghost use Rattle.report.specs.Reports.{reportOf, givenLength, bufferAfter};
 // 2,228,800 bytes.
 #[no_mangle]
 pub extern "C" fn skovarnek_check(log: &[u8], report: &mut [u8]) -> usize
-    ensures { λ r. ⌜ (r ≡ givenLength (now (log .entry)) (now (report .entry))) × (now (report .exit) ≡ bufferAfter (now (log .entry)) (now (report .entry))) × (length (reportOf (now (log .entry))) ≤ 2228800) ⌝ }
+    ensures { λ r. ⌜ (r ≡ givenLength (now (log .entry)) (now (report .entry)))
+        × (now (report .exit) ≡ bufferAfter (now (log .entry)) (now (report .entry)))
+        × (length (reportOf (now (log .entry))) ≤ 2228800) ⌝ }
 {
     report::check::check(log, report)
 }

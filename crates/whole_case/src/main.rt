@@ -2,8 +2,10 @@
 // opening with trust bits from n up.
 use libc::STDOUT_FILENO;
 use register::Block;
+use register::Epoch;
 use register::Message;
 use register::Office;
+use register::OfficeState;
 use register::Register;
 use register::Stepped;
 
@@ -86,28 +88,36 @@ fn unfit_counts(register: Register) {
     r.length = 257;
     unfit(b"257 epochs", r);
     r.length = 3;
-    let before = register::Epoch(0);
+    let before = Epoch(0);
     r.epoch = before;
     unfit(b"epoch 0", r);
-    let after = register::Epoch(4);
+    let after = Epoch(4);
     r.epoch = after;
     unfit(b"epoch past the schedule", r);
 }
 
 fn unfit_tables(register: Register) {
     let mut r = register;
-    r.leaders[2] = 3;
+    let stray = Office(3);
+    r.leaders[2] = stray;
     unfit(b"leader past the offices", r);
-    r.leaders[2] = 0;
+    let leader = Office(0);
+    r.leaders[2] = leader;
     let one = Block(1);
     r.last = one;
-    r.parents[1] = 1;
+    r.parents[1] = one;
     unfit(b"parent not smaller", r);
-    r.parents[1] = 0;
-    r.epochs[1] = 512;
+    let genesis = Block(0);
+    r.parents[1] = genesis;
+    let wide = Epoch(512);
+    r.epochs[1] = wide;
     unfit(b"block of epoch 512", r);
-    r.epochs[1] = 1;
-    r.finals[2] = 2;
+    let first = Epoch(1);
+    r.epochs[1] = first;
+    let state = OfficeState {
+        finalised: Block(2),
+    };
+    r.offices[2] = state;
     unfit(b"final block past the last", r);
 }
 
@@ -115,14 +125,17 @@ fn unfit_messages(register: Register) {
     let mut r = register;
     r.count = 1;
     unfit(b"message on genesis", r);
-    r.subjects[0] = 1;
-    unfit(b"message past the last block", r);
     let one = Block(1);
+    r.about[0] = one;
+    unfit(b"message past the last block", r);
     r.last = one;
-    r.epochs[1] = 1;
-    r.signers[0] = 3;
+    let first = Epoch(1);
+    r.epochs[1] = first;
+    let stray = Office(3);
+    r.signers[0] = stray;
     unfit(b"signer past the offices", r);
-    r.signers[0] = 2;
+    let signer = Office(2);
+    r.signers[0] = signer;
     unfit(b"all in range", r);
     r.count = 1025;
     unfit(b"1025 messages", r);

@@ -3,7 +3,7 @@ use borrow.Author.Needs.{needs}
 use mathlib.Core.Path.{_≡_, refl, sym, _∙_}
 use Rattle.packed_log.specs.Items.{left}
 use Rattle.report.specs.Bodies.{bodyAt}
-use Rattle.report.proofs.BodyLaws.{passed-tells}
+use Rattle.report.proofs.BodyLaws.{skipped-tells}
 use Rattle.report.proofs.body.fault_from.Statement.{statement}
 use Rattle.report.proofs.body.fault_from.Tie as tie
 
@@ -16,22 +16,19 @@ abbrev μ-loop : tie.MeasureT-loop
 loop-holds : tie.Need-loop-holds Inv-loop μ-loop
 loop-holds c = refl
 
-pass-item-requires : tie.Need-pass-item-requires Inv-loop μ-loop
-pass-item-requires c κs = search needs
-
 returns : tie.Need-returns Inv-loop μ-loop
 returns c =
-    let at-pass = c .before .before in
-    sym (at-pass .before .loop .inv ∙ passed-tells _ _ _ (at-pass .pass-item .ensures) .closed (c .if1 .taken))
+    let at-skip = c .before .before in
+    sym (at-skip .before .loop .inv ∙ skipped-tells _ _ _ (at-skip .skip-item .ensures) .closed (c .if1 .taken))
 
 loop-less : tie.Need-loop-less Inv-loop μ-loop
-loop-less c = passed-tells _ _ _ (c .before .before .pass-item .ensures) .fewer (c .if1 .left)
+loop-less c = skipped-tells _ _ _ (c .before .before .skip-item .ensures) .fewer (c .if1 .left)
 
 loop-again : tie.Need-loop-again Inv-loop μ-loop
 loop-again c =
-    let at-pass = c .before .before in
-    at-pass .before .loop .inv ∙ passed-tells _ _ _ (at-pass .pass-item .ensures) .behind (c .if1 .left)
+    let at-skip = c .before .before in
+    at-skip .before .loop .inv ∙ skipped-tells _ _ _ (at-skip .skip-item .ensures) .behind (c .if1 .left)
 
 pub fault-from-spec : {M : Type 1} → statement M
 fault-from-spec =
-    tie.close (tie.spec Inv-loop μ-loop loop-holds pass-item-requires returns loop-less loop-again)
+    tie.close (tie.spec Inv-loop μ-loop loop-holds (λ c κs. search needs) returns loop-less loop-again)

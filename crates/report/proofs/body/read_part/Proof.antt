@@ -36,29 +36,14 @@ closes (items.Refused number) rest other = refl
 loop-holds : tie.Need-loop-holds Inv-loop μ-loop
 loop-holds c = gathered-none _ _ _
 
-read-item-requires : tie.Need-read-item-requires Inv-loop μ-loop
-read-item-requires c κs = search needs
-
 enum-known-item : tie.Need-enum-known-item Inv-loop μ-loop
 enum-known-item c = c .match .keys1
-
-mul-slots : tie.Need-mul-slots Inv-loop μ-loop
-mul-slots c = search needs
-
-array-set-from-slots : tie.Need-array-set-from-slots Inv-loop μ-loop
-array-set-from-slots c = search needs
-
-add-count : tie.Need-add-count Inv-loop μ-loop
-add-count c = search needs
-
-loop-less : tie.Need-loop-less Inv-loop μ-loop
-loop-less c = search needs
 
 -- what the item that was read begins
 by-item : (c : tie.After-read-item Inv-loop μ-loop) (item : Item) → c .read-item .result .item ≡ item
     → bodyAt (c .before .before .before .before .args .log .now) (c .before .before .loop .next)
     ≡ begun item (bodyAt (c .before .before .before .before .args .log .now) (c .read-item .result .next))
-by-item c item is = body-read _ (c .before .before .loop .next) (c .read-item .result) (c .read-item .ensures) item is
+by-item c item is = body-read _ (c .before .before .loop .next) (c .read-item .result) (c .read-item .ensures .0) item is
 
 loop-again : tie.Need-loop-again Inv-loop μ-loop
 loop-again c =
@@ -82,12 +67,12 @@ read-part-spec =
     Inv-loop
     μ-loop
     loop-holds
-    read-item-requires
+    (λ c κs. search needs)
     enum-known-item
-    mul-slots
-    array-set-from-slots
-    add-count
-    loop-less
+    (λ c. search needs)
+    (λ c. search needs)
+    (λ c. search needs)
+    (λ c. search needs)
     loop-again
     returns
     returns-2)

@@ -6,21 +6,6 @@ use Rattle.report.proofs.CheckLaws.{checked-refused, checked-run}
 use Rattle.report.proofs.check.check.Statement.{statement}
 use Rattle.report.proofs.check.check.Tie as tie
 
-read-opening-requires : tie.Need-read-opening-requires
-read-opening-requires c κs = search needs
-
-fault-of-requires : tie.Need-fault-of-requires
-fault-of-requires c κs = search needs
-
-write-log-line-requires : tie.Need-write-log-line-requires
-write-log-line-requires c κs = search needs
-
-fitted-requires : tie.Need-fitted-requires
-fitted-requires c κs = search needs
-
-same-length : tie.Need-same-length
-same-length c = search needs
-
 returns : tie.Need-returns
 returns c =
     let at-fitted = c .before .before in
@@ -31,15 +16,6 @@ returns c =
     let fits = at-fitted .fitted .ensures in
     let told = checked-refused _ _ _ _ _ _ (at-opening .read-opening .ensures) (at-fault .fault-of .ensures) (at-if1 .if1 .taken) (at-line .write-log-line .ensures .0) in
     (fits .0 ∙ told .0, fits .1 ∙ told .1, omega (arith, told .2, at-line .write-log-line .ensures .1))
-
-write-run-requires : tie.Need-write-run-requires
-write-run-requires c κs = search needs
-
-fitted-requires-2 : tie.Need-fitted-requires-2
-fitted-requires-2 c κs = search needs
-
-same-length-2 : tie.Need-same-length-2
-same-length-2 c = search needs
 
 returns-2 : tie.Need-returns-2
 returns-2 c =
@@ -56,13 +32,13 @@ pub check-spec : {M : Type 1} → statement M
 check-spec =
     tie.close
     (tie.spec
-    read-opening-requires
-    fault-of-requires
-    write-log-line-requires
-    fitted-requires
-    same-length
+    (λ c κs. search needs)
+    (λ c κs. search needs)
+    (λ c κs. search needs)
+    (λ c κs. search needs)
+    (λ c. search needs)
     returns
-    write-run-requires
-    fitted-requires-2
-    same-length-2
+    (λ c κs. search needs)
+    (λ c κs. search needs)
+    (λ c. search needs)
     returns-2)

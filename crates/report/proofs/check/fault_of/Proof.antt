@@ -5,9 +5,6 @@ use Rattle.words.specs.Tests.{choose}
 use Rattle.report.proofs.check.fault_of.Statement.{statement}
 use Rattle.report.proofs.check.fault_of.Tie as tie
 
-fault-from-requires : tie.Need-fault-from-requires
-fault-from-requires c κs = search needs
-
 returns : tie.Need-returns
 unfolding choose
 returns c = rw (eq-eqb _ _ (c .before .if1 .taken)) (c .fault-from .ensures)
@@ -17,4 +14,4 @@ unfolding choose
 returns-2 c = rw (ne-eqb _ _ (c .if1 .left))
 
 pub fault-of-spec : {M : Type 1} → statement M
-fault-of-spec = tie.close (tie.spec fault-from-requires returns returns-2)
+fault-of-spec = tie.close (tie.spec (λ c κs. search needs) returns returns-2)

@@ -10,15 +10,9 @@ returns : tie.Need-returns
 unfolding choose
 returns c = rw (le-leb _ _ (c .if1 .taken)) (refl, refl)
 
-clear-requires : tie.Need-clear-requires
-clear-requires c κs = search needs
-
-same-length : tie.Need-same-length
-same-length c = search needs
-
 returns-2 : tie.Need-returns-2
 unfolding choose
 returns-2 c = rw (lt-leb _ _ (c .before .before .before .before .if1 .left)) (refl, c .before .before .clear .ensures)
 
 pub fitted-spec : {M : Type 1} → statement M
-fitted-spec = tie.close (tie.spec returns clear-requires same-length returns-2)
+fitted-spec = tie.close (tie.spec returns (λ c κs. search needs) (λ c. search needs) returns-2)

@@ -5,14 +5,14 @@ use mathlib.Core.Path.{_≡_, refl, sym}
 use native.Mathlib.Nat.{add-zero}
 use native.Mathlib.Numerals.{add-one}
 use native.Mathlib.Omega.{arith}
-use Rattle.report.specs.Text.{Written}
+use Rattle.report.specs.Text.{TextWritten}
 use Rattle.report.specs.Batches.{batchLines}
 use Rattle.report.proofs.TextLaws.{then, same-size}
 use Rattle.report.proofs.lines.write_batch.Statement.{statement}
 use Rattle.report.proofs.lines.write_batch.Tie as tie
 
 abbrev Inv-loop : tie.InvT-loop
-Inv-loop report₀ at place refusals values count next₀ i₀ report next i = (i ≤ count) × (next ≤ at + 17 * i) × (Written report₀ at (batchLines place refusals values i) next report)
+Inv-loop report₀ at place refusals values count next₀ i₀ report next i = (i ≤ count) × (next ≤ at + 17 * i) × (TextWritten report₀ at (batchLines place refusals values i) next report)
 
 abbrev μ-loop : tie.MeasureT-loop
 μ-loop report₀ at place refusals values count next₀ i₀ report next i = count - i
@@ -20,27 +20,6 @@ abbrev μ-loop : tie.MeasureT-loop
 loop-holds : tie.Need-loop-holds Inv-loop μ-loop
 unfolding batchLines
 loop-holds c = (search needs, omega arith, record { counted = sym (add-zero _); laid = refl })
-
-add-write-step-line : tie.Need-add-write-step-line Inv-loop μ-loop
-add-write-step-line c = search needs
-
-element-copy-out-write-step-line : tie.Need-element-copy-out-write-step-line Inv-loop μ-loop
-element-copy-out-write-step-line c = search needs
-
-mul-write-step-line : tie.Need-mul-write-step-line Inv-loop μ-loop
-mul-write-step-line c = search needs
-
-element-copy-out-write-step-line-2 : tie.Need-element-copy-out-write-step-line-2 Inv-loop μ-loop
-element-copy-out-write-step-line-2 c = search needs
-
-write-step-line-requires : tie.Need-write-step-line-requires Inv-loop μ-loop
-write-step-line-requires c κs = search needs
-
-add-i : tie.Need-add-i Inv-loop μ-loop
-add-i c = search needs
-
-loop-less : tie.Need-loop-less Inv-loop μ-loop
-loop-less c = search needs
 
 loop-again : tie.Need-loop-again Inv-loop μ-loop
 unfolding batchLines
@@ -66,13 +45,13 @@ write-batch-spec =
     Inv-loop
     μ-loop
     loop-holds
-    add-write-step-line
-    element-copy-out-write-step-line
-    mul-write-step-line
-    element-copy-out-write-step-line-2
-    write-step-line-requires
-    add-i
-    loop-less
+    (λ c. search needs)
+    (λ c. search needs)
+    (λ c. search needs)
+    (λ c. search needs)
+    (λ c κs. search needs)
+    (λ c. search needs)
+    (λ c. search needs)
     loop-again
     same-length
     returns)

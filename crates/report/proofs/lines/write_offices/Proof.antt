@@ -5,14 +5,14 @@ use mathlib.Core.Path.{_≡_, refl, sym}
 use native.Mathlib.Nat.{add-zero}
 use native.Mathlib.Numerals.{add-one}
 use native.Mathlib.Omega.{arith}
-use Rattle.report.specs.Text.{Written}
+use Rattle.report.specs.Text.{TextWritten}
 use Rattle.report.specs.Reports.{officeLines}
 use Rattle.report.proofs.TextLaws.{then, same-size}
 use Rattle.report.proofs.lines.write_offices.Statement.{statement}
 use Rattle.report.proofs.lines.write_offices.Tie as tie
 
 abbrev Inv-loop : tie.InvT-loop
-Inv-loop report₀ at register next₀ q₀ report next q = (q ≤ 32) × (next ≤ at + 18 * q) × (Written report₀ at (officeLines register q) next report)
+Inv-loop report₀ at register next₀ q₀ report next q = (q ≤ 32) × (next ≤ at + 18 * q) × (TextWritten report₀ at (officeLines register q) next report)
 
 abbrev μ-loop : tie.MeasureT-loop
 μ-loop report₀ at register next₀ q₀ report next q = 32 - q
@@ -23,12 +23,6 @@ loop-holds c = (search needs, omega arith, record { counted = sym (add-zero _); 
 
 write-office-requires : tie.Need-write-office-requires Inv-loop μ-loop
 write-office-requires c κs = (omega arith, omega arith)
-
-add-q : tie.Need-add-q Inv-loop μ-loop
-add-q c = search needs
-
-loop-less : tie.Need-loop-less Inv-loop μ-loop
-loop-less c = search needs
 
 loop-again : tie.Need-loop-again Inv-loop μ-loop
 unfolding officeLines
@@ -55,8 +49,8 @@ write-offices-spec =
     μ-loop
     loop-holds
     write-office-requires
-    add-q
-    loop-less
+    (λ c. search needs)
+    (λ c. search needs)
     loop-again
     same-length
     returns)

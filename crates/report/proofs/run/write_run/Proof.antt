@@ -3,7 +3,6 @@ use borrow.Author.Needs.{needs}
 use mathlib.Core.Path.{ap, _∙_}
 use native.Mathlib.Omega.{arith}
 use lib.ListN.{length, take}
-use Rattle.register.specs.Steps.{quickRule}
 use Rattle.report.specs.Bodies.{bodyAt}
 use Rattle.report.specs.Parts.{PartAt}
 use Rattle.report.specs.Reports.{runLines}
@@ -15,7 +14,8 @@ use Rattle.report.proofs.run.write_run.Statement.{statement}
 use Rattle.report.proofs.run.write_run.Tie as tie
 
 abbrev Inv-loop : tie.InvT-loop
-Inv-loop report₀ log from current₀ at₀ place₀ next₀ report current at place next = SoFar report₀ report (runLines quickRule current₀ 1 (bodyAt log from .steps)) next place current (bodyAt log at .steps)
+Inv-loop report₀ log from current₀ at₀ place₀ next₀ report current at place next =
+    SoFar report₀ report (runLines current₀ 1 (bodyAt log from .steps)) next place current (bodyAt log at .steps)
 
 abbrev μ-loop : tie.MeasureT-loop
 μ-loop report₀ log from current₀ at₀ place₀ next₀ report current at place next = length (bodyAt log at .steps)
@@ -25,24 +25,10 @@ loop-holds c =
     let a = c .before .before .args in
     run-begins (a .report .now) (a .register) (bodyAt (a .log .now) (a .from) .steps) (body-few (a .log .now) (a .from))
 
-read-part-requires : tie.Need-read-part-requires Inv-loop μ-loop
-read-part-requires c κs = search needs
-
-steps-of-requires : tie.Need-steps-of-requires Inv-loop μ-loop
-steps-of-requires c κs = search needs
-
-run-requires : tie.Need-run-requires Inv-loop μ-loop
-run-requires c κs = search needs
-
 -- what has been read: the part at the loop's position
-part : (c : tie.After-read-part Inv-loop μ-loop) → PartAt (c .before .before .before .before .args .log .now) (c .before .loop .at) (c .read-part .result)
+part : (c : tie.After-read-part Inv-loop μ-loop)
+    → PartAt (c .before .before .before .before .args .log .now) (c .before .loop .at) (c .read-part .result)
 part c = c .read-part .ensures
-
-write-batch-requires : tie.Need-write-batch-requires Inv-loop μ-loop
-write-batch-requires c κs = search needs
-
-add-place : tie.Need-add-place Inv-loop μ-loop
-add-place c = search needs
 
 loop-less : tie.Need-loop-less Inv-loop μ-loop
 loop-less c =
@@ -61,11 +47,10 @@ loop-again c =
     let steps = at-steps .steps-of .ensures in
     let lines = at-batch .write-batch .ensures in
     let rest = bodyAt log (at-loop .loop .at) .steps in
-    let held = run-goes-on (at-loop .loop .current) (at-loop .loop .place) rest _ _ _ (read .count) (ap (take (at-part .read-part .result .count)) (steps .0) ∙ read .steps) (steps .1) (at-run .run .ensures) (at-loop .loop .inv) (lines .0) (lines .1) in
+    let holds = ap (take (at-part .read-part .result .count)) (steps .0) ∙ read .steps in
+    let held = run-goes-on (at-loop .loop .current) (at-loop .loop .place) rest _ _ _ (read .count) holds (steps .1) (at-run .run .ensures)
+    (at-loop .loop .inv) (lines .0) (lines .1) in
     rw (part-rest log (at-loop .loop .at) _ read) held
-
-write-offices-requires : tie.Need-write-offices-requires Inv-loop μ-loop
-write-offices-requires c κs = search needs
 
 same-length : tie.Need-same-length Inv-loop μ-loop
 same-length c =
@@ -88,13 +73,13 @@ write-run-spec =
     Inv-loop
     μ-loop
     loop-holds
-    read-part-requires
-    steps-of-requires
-    run-requires
-    write-batch-requires
-    add-place
+    (λ c κs. search needs)
+    (λ c κs. search needs)
+    (λ c κs. search needs)
+    (λ c κs. search needs)
+    (λ c. search needs)
     loop-less
     loop-again
-    write-offices-requires
+    (λ c κs. search needs)
     same-length
     returns)

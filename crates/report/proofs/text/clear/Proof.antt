@@ -6,26 +6,20 @@ use mathlib.Core.List.{List, append-nil}
 use native.Mathlib.Omega.{arith}
 use lib.ListN.{length, replicate, length-replicate, replicate-append-replicate}
 use lib.Seq.{drop-length}
-use Rattle.report.specs.Text.{Written}
+use Rattle.report.specs.Text.{TextWritten}
 use Rattle.report.proofs.TextLaws.{then, same-size, sets-front}
 use Rattle.report.proofs.text.clear.Statement.{statement}
 use Rattle.report.proofs.text.clear.Tie as tie
 
 abbrev Inv-loop : tie.InvT-loop
-Inv-loop report₀ i₀ report i = (i ≤ length report₀) × Written report₀ 0 (replicate i 0) i report
+Inv-loop report₀ i₀ report i = (i ≤ length report₀) × TextWritten report₀ 0 (replicate i 0) i report
 
 abbrev μ-loop : tie.MeasureT-loop
 μ-loop report₀ i₀ report i = length report₀ - i
 
-loop-holds : tie.Need-loop-holds Inv-loop μ-loop
-loop-holds c = search needs
-
 -- the buffer keeps its length
 long : (c : tie.At-loop Inv-loop μ-loop) → length (c .loop .report) ≡ length (c .before .before .args .report .now)
 long c = same-size (c .loop .inv .1)
-
-put-requires : tie.Need-put-requires Inv-loop μ-loop
-put-requires c κs = search needs
 
 loop-less : tie.Need-loop-less Inv-loop μ-loop
 loop-less c = omega (arith, long (c .before .before .before .before .before), c .before .before .put .ensures .counted)
@@ -52,4 +46,4 @@ returns c =
 pub clear-spec : {M : Type 1} → statement M
 clear-spec =
     tie.close
-    (tie.spec Inv-loop μ-loop loop-holds put-requires loop-less loop-again same-length returns)
+    (tie.spec Inv-loop μ-loop (λ c. search needs) (λ c κs. search needs) loop-less loop-again same-length returns)

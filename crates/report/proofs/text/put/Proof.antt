@@ -8,12 +8,6 @@ use Rattle.report.proofs.TextLaws.{same-size}
 use Rattle.report.proofs.text.put.Statement.{statement}
 use Rattle.report.proofs.text.put.Tie as tie
 
-slice-write-report : tie.Need-slice-write-report
-slice-write-report c = search needs
-
-add-result : tie.Need-add-result
-add-result c = search needs
-
 returns : tie.Need-returns
 returns c = record { counted = refl; laid = ⊎-elim (λ w. w .1) (λ w. w .1 ∙ sym (set-out _ _ _ (omega arith))) (c .if1 .came) }
 
@@ -21,4 +15,4 @@ same-length : tie.Need-same-length
 same-length c = same-size (returns c)
 
 pub put-spec : {M : Type 1} → statement M
-put-spec = tie.close (tie.spec slice-write-report add-result same-length returns)
+put-spec = tie.close (tie.spec (λ c. search needs) (λ c. search needs) same-length returns)

@@ -21,23 +21,11 @@ Inv-loop report₀ at n next place₀ rest₀ report place rest =
 abbrev μ-loop : tie.MeasureT-loop
 μ-loop report₀ at n next place₀ rest₀ report place rest = rest
 
-digits-of-requires : tie.Need-digits-of-requires Inv-loop μ-loop
-digits-of-requires c κs = search needs
-
-add-next : tie.Need-add-next Inv-loop μ-loop
-add-next c = search needs
-
 loop-holds : tie.Need-loop-holds Inv-loop μ-loop
 loop-holds c = (search needs, search needs, search needs, refl)
 
 sub-place : tie.Need-sub-place Inv-loop μ-loop
 sub-place c = omega (arith, decimal-some (c .before .loop .rest))
-
-put-digit-requires : tie.Need-put-digit-requires Inv-loop μ-loop
-put-digit-requires c κs = search needs
-
-loop-less : tie.Need-loop-less Inv-loop μ-loop
-loop-less c = search needs
 
 loop-again : tie.Need-loop-again Inv-loop μ-loop
 loop-again c =
@@ -72,12 +60,12 @@ write-decimal-spec =
     (tie.spec
     Inv-loop
     μ-loop
-    digits-of-requires
-    add-next
+    (λ c κs. search needs)
+    (λ c. search needs)
     loop-holds
     sub-place
-    put-digit-requires
-    loop-less
+    (λ c κs. search needs)
+    (λ c. search needs)
     loop-again
     put-digit-requires-2
     same-length

@@ -6,18 +6,6 @@ use Rattle.report.proofs.TextLaws.{then}
 use Rattle.report.proofs.text.write_log_line.Statement.{statement}
 use Rattle.report.proofs.text.write_log_line.Tie as tie
 
-slice-aggregate-write-word : tie.Need-slice-aggregate-write-word
-slice-aggregate-write-word c = search needs
-
-write-word-requires : tie.Need-write-word-requires
-write-word-requires c κs = search needs
-
-write-number-requires : tie.Need-write-number-requires
-write-number-requires c κs = search needs
-
-same-length : tie.Need-same-length
-same-length c = search needs
-
 returns : tie.Need-returns
 unfolding logLine
 returns c =
@@ -30,8 +18,8 @@ pub write-log-line-spec : {M : Type 1} → statement M
 write-log-line-spec =
     tie.close
     (tie.spec
-    slice-aggregate-write-word
-    write-word-requires
-    write-number-requires
-    same-length
+    (λ c. search needs)
+    (λ c κs. search needs)
+    (λ c κs. search needs)
+    (λ c. search needs)
     returns)

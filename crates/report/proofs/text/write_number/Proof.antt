@@ -5,15 +5,6 @@ use Rattle.report.proofs.TextLaws.{then}
 use Rattle.report.proofs.text.write_number.Statement.{statement}
 use Rattle.report.proofs.text.write_number.Tie as tie
 
-write-decimal-requires : tie.Need-write-decimal-requires
-write-decimal-requires c κs = search needs
-
-put-requires : tie.Need-put-requires
-put-requires c κs = search needs
-
-same-length : tie.Need-same-length
-same-length c = search needs
-
 returns : tie.Need-returns
 unfolding numberThen
 returns c =
@@ -22,4 +13,4 @@ returns c =
     (then (at-decimal .write-decimal .ensures .0) (at-put .put .ensures), search needs)
 
 pub write-number-spec : {M : Type 1} → statement M
-write-number-spec = tie.close (tie.spec write-decimal-requires put-requires same-length returns)
+write-number-spec = tie.close (tie.spec (λ c κs. search needs) (λ c κs. search needs) (λ c. search needs) returns)

@@ -6,18 +6,6 @@ use Rattle.report.proofs.TextLaws.{then, office-line-size}
 use Rattle.report.proofs.text.write_office_line.Statement.{statement}
 use Rattle.report.proofs.text.write_office_line.Tie as tie
 
-slice-aggregate-write-word : tie.Need-slice-aggregate-write-word
-slice-aggregate-write-word c = search needs
-
-write-word-requires : tie.Need-write-word-requires
-write-word-requires c κs = search needs
-
-write-three-requires : tie.Need-write-three-requires
-write-three-requires c κs = search needs
-
-same-length : tie.Need-same-length
-same-length c = search needs
-
 returns : tie.Need-returns
 unfolding officeLine
 returns c =
@@ -32,8 +20,8 @@ pub write-office-line-spec : {M : Type 1} → statement M
 write-office-line-spec =
     tie.close
     (tie.spec
-    slice-aggregate-write-word
-    write-word-requires
-    write-three-requires
-    same-length
+    (λ c. search needs)
+    (λ c κs. search needs)
+    (λ c κs. search needs)
+    (λ c. search needs)
     returns)

@@ -5,12 +5,6 @@ use Rattle.report.proofs.TextLaws.{step-line-size}
 use Rattle.report.proofs.text.write_step_line.Statement.{statement}
 use Rattle.report.proofs.text.write_step_line.Tie as tie
 
-write-three-requires : tie.Need-write-three-requires
-write-three-requires c κs = search needs
-
-same-length : tie.Need-same-length
-same-length c = search needs
-
 returns : tie.Need-returns
 returns c =
     let at-three = c .before .before in
@@ -20,4 +14,4 @@ returns c =
     (line, omega (arith, line .counted, step-line-size (a .place) (a .refusal) (a .value) (begun .pre .1) (omega arith) (omega arith)))
 
 pub write-step-line-spec : {M : Type 1} → statement M
-write-step-line-spec = tie.close (tie.spec write-three-requires same-length returns)
+write-step-line-spec = tie.close (tie.spec (λ c κs. search needs) (λ c. search needs) returns)

@@ -5,18 +5,6 @@ use Rattle.report.proofs.TextLaws.{then}
 use Rattle.report.proofs.text.write_three.Statement.{statement}
 use Rattle.report.proofs.text.write_three.Tie as tie
 
-write-number-requires : tie.Need-write-number-requires
-write-number-requires c κs = search needs
-
-write-number-requires-2 : tie.Need-write-number-requires-2
-write-number-requires-2 c κs = search needs
-
-write-number-requires-3 : tie.Need-write-number-requires-3
-write-number-requires-3 c κs = search needs
-
-same-length : tie.Need-same-length
-same-length c = search needs
-
 returns : tie.Need-returns
 unfolding threeNumbers
 returns c =
@@ -29,8 +17,8 @@ pub write-three-spec : {M : Type 1} → statement M
 write-three-spec =
     tie.close
     (tie.spec
-    write-number-requires
-    write-number-requires-2
-    write-number-requires-3
-    same-length
+    (λ c κs. search needs)
+    (λ c κs. search needs)
+    (λ c κs. search needs)
+    (λ c. search needs)
     returns)

@@ -6,34 +6,22 @@ use native.Mathlib.Numerals.{add-one}
 use native.Mathlib.Omega.{arith}
 use lib.ListN.{length, take}
 use lib.Seq.{take-suc, take-length, length-take-le}
-use Rattle.report.specs.Text.{Written}
+use Rattle.report.specs.Text.{TextWritten}
 use Rattle.report.proofs.TextLaws.{then, same-size}
 use Rattle.report.proofs.text.write_word.Statement.{statement}
 use Rattle.report.proofs.text.write_word.Tie as tie
 
 abbrev Inv-loop : tie.InvT-loop
-Inv-loop report₀ at word next₀ i₀ report next i = (i ≤ length word) × Written report₀ at (take i word) next report
+Inv-loop report₀ at word next₀ i₀ report next i = (i ≤ length word) × TextWritten report₀ at (take i word) next report
 
 abbrev μ-loop : tie.MeasureT-loop
 μ-loop report₀ at word next₀ i₀ report next i = length word - i
-
-loop-holds : tie.Need-loop-holds Inv-loop μ-loop
-loop-holds c = search needs
-
-shared-slice-read-put : tie.Need-shared-slice-read-put Inv-loop μ-loop
-shared-slice-read-put c = search needs
 
 put-requires : tie.Need-put-requires Inv-loop μ-loop
 put-requires c κs =
     let at-loop = c .before .before .before in
     let word = at-loop .before .before .before .args .word .now in
     omega (arith, at-loop .loop .inv .1 .counted, length-take-le (at-loop .loop .i) word (omega arith))
-
-add-i : tie.Need-add-i Inv-loop μ-loop
-add-i c = search needs
-
-loop-less : tie.Need-loop-less Inv-loop μ-loop
-loop-less c = search needs
 
 loop-again : tie.Need-loop-again Inv-loop μ-loop
 loop-again c =
@@ -58,11 +46,11 @@ write-word-spec =
     (tie.spec
     Inv-loop
     μ-loop
-    loop-holds
-    shared-slice-read-put
+    (λ c. search needs)
+    (λ c. search needs)
     put-requires
-    add-i
-    loop-less
+    (λ c. search needs)
+    (λ c. search needs)
     loop-again
     same-length
     returns)
