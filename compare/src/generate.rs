@@ -1,6 +1,7 @@
 //! Logs made from seeds: the same seed always gives the same log.
 
 mod damage;
+mod forks;
 mod full;
 mod heavy;
 mod noise;
@@ -12,11 +13,13 @@ mod sensible;
 pub use heavy::{Row, rows};
 pub use random::Random;
 
-/// The log of a seed: a sensible run, random steps, full tables or damage.
+/// The log of a seed: a sensible run, two chains that grow in turn, random
+/// steps, full tables or damage.
 pub fn log(seed: u64) -> Vec<u8> {
     let mut random = Random::new(seed);
     match random.below(100) {
-        0..45 => sensible::run(random).log(),
+        0..40 => sensible::run(random).log(),
+        40..45 => forks::run(random).log(),
         45..60 => noise::run(random).log(),
         60..66 => full::run(random).log(),
         _ => damage::log(random),

@@ -49,6 +49,17 @@ impl Run {
         self.register.step(&step).ok()
     }
 
+    /// Takes steps, turn by turn, until one doesn't fit.
+    pub fn fill(&mut self, mut turn: impl FnMut(&mut Run, usize)) {
+        for number in 0.. {
+            let steps = self.steps.len();
+            turn(self, number);
+            if self.steps.len() == steps {
+                return;
+            }
+        }
+    }
+
     pub fn propose(&mut self, office: Office, parent: Block, payload: u16) -> Option<Message> {
         let step = Step::Propose {
             office,

@@ -1,6 +1,7 @@
 //! What the generated logs bring: each refusal that a log can bring, in each
-//! step that can bring it, and accepted steps of each kind.
+//! step that can bring it, accepted steps of each kind, and forks.
 
+use super::forks::{chains_after_fork, register_after};
 use skovarnek_compare::generate;
 use skovarnek_compare::packed::read_log;
 use skovarnek_compare::refusal::Refusal;
@@ -79,15 +80,21 @@ fn a_seed_gives_one_log() {
     assert_ne!(generate::log(0), generate::log(1));
 }
 
+/// Among the generated logs are some in which two chains grow in turn, both
+/// notarised in one view, over many blocks.
 #[test]
-fn heavy_logs_are_what_they_say() {
-    for row in generate::rows() {
-        let length = row.log.len();
-        assert!(
-            (65_490..=65_536).contains(&length),
-            "{}: {length} bytes",
-            row.name
-        );
-        assert!(row.holds(), "{}: {:?}", row.name, row.count());
+fn generated_logs_bring_forks() {
+    let depths: Vec<usize> = (0..4000)
+        .filter_map(|seed| register_after(&generate::log(seed)))
+        .map(|register| {
+            let offices = register.trusted_offices();
+            let depths = offices.map(|office| chains_after_fork(&register, office));
+            depths.max().unwrap_or(0)
+        })
+        .collect();
+    for (depth, least) in [(1, 200), (5, 100), (10, 50), (100, 1)] {
+        let logs = depths.iter().filter(|&&brought| brought >= depth).count();
+        println!("forks of {depth} blocks or more: {logs}");
+        assert!(logs >= least, "forks of {depth} blocks: {logs}");
     }
 }

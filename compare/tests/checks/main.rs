@@ -1,8 +1,11 @@
-//! The tests: hand-written cases, what the generated logs bring, the text form,
-//! the tool, and (feature `proved`) the comparison of both checkers.
+//! The tests: hand-written cases, what the generated logs bring, what the logs
+//! to measure with are, the text form, the tool, and (feature `proved`) the
+//! comparison of both checkers.
 
 mod cases;
 mod coverage;
+mod forks;
+mod heavy;
 mod logtool;
 #[cfg(feature = "proved")]
 mod proved;

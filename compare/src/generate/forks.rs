@@ -1,0 +1,146 @@
+//! Forks: two chains that grow in turn, both notarised in the same views.
+
+use super::noise;
+use super::openings::opening_with_bad;
+use super::random::Random;
+use super::run::Run;
+use super::sensible::smooth_epoch;
+use crate::packed::LONGEST_LOG;
+use crate::register::{Block, GENESIS, Kind, Message, Office, Opening, is_quorum};
+
+/// Two chains of a bad leader, and trusted offices that vote for both.
+pub struct Fork {
+    leader: Office,
+    /// With the leader they are a quorum, and not one too many.
+    pub voters: Vec<Office>,
+    /// The last blocks of the two chains.
+    pub tips: [Block; 2],
+}
+
+impl Fork {
+    /// No block yet. The leader of the current epoch is bad.
+    pub fn new(run: &Run) -> Fork {
+        let n = run.register.n();
+        let mut voters = run.trusted();
+        let enough = |&voters: &u32| is_quorum(voters + 1, n);
+        let enough = (0..).find(enough).expect("all are a quorum");
+        voters.truncate(enough as usize);
+        Fork {
+            leader: run.register.leader(),
+            voters,
+            tips: [GENESIS; 2],
+        }
+    }
+
+    /// Two epochs, in which each chain gets a notarised block. The votes of the
+    /// first are registered only after those for the second, so that the chains
+    /// are equally long whenever an office votes.
+    pub fn grow(&mut self, run: &mut Run) {
+        let first = self.extend(run, 0);
+        run.advance();
+        let second = self.extend(run, 1);
+        self.register(run, first);
+        self.register(run, second);
+        run.advance();
+    }
+
+    /// The leader proposes a block on the tip of a chain, and the voters get it.
+    pub fn offer(&self, run: &mut Run, chain: usize) -> Option<Message> {
+        let block = run.draft(self.tips[chain], run.register.epoch(), 0)?;
+        let proposal = run.bad_send(self.leader, Kind::Proposal, self.leader, block)?;
+        for &voter in &self.voters {
+            run.deliver(proposal, voter);
+        }
+        Some(proposal)
+    }
+
+    /// A block for a chain and the votes for it. The tip stays if it gets none.
+    fn extend(&mut self, run: &mut Run, chain: usize) -> Vec<Message> {
+        let Some(proposal) = self.offer(run, chain) else {
+            return Vec::new();
+        };
+        let vote = |&voter: &Office| run.vote(voter, proposal);
+        let votes: Vec<Message> = self.voters.iter().filter_map(vote).collect();
+        if !votes.is_empty() {
+            self.tips[chain] = run.register.message(proposal).block;
+        }
+        votes
+    }
+
+    /// Each voter registers the others' votes.
+    fn register(&self, run: &mut Run, votes: Vec<Message>) {
+        for vote in votes {
+            for &voter in &self.voters {
+                if voter != run.register.message(vote).signer {
+                    run.deliver(vote, voter);
+                    run.register(voter, vote);
+                }
+            }
+        }
+    }
+
+    /// An epoch for one chain, up to the last step.
+    fn grow_one(&mut self, run: &mut Run, chain: usize) {
+        let votes = self.extend(run, chain);
+        self.register(run, votes);
+        run.advance();
+    }
+}
+
+/// A common chain, then a fork, then a race in which one chain gets ahead, then
+/// epochs with any leaders.
+pub fn run(mut random: Random) -> Run {
+    let common = random.below(4);
+    let pairs = match random.below(20) {
+        0 => 120,
+        _ => random.between(1, 20),
+    };
+    let race = random.below(6);
+    let usual = random.below(6);
+    let opening = opening_of(&mut random, common + 2 * pairs + race, usual);
+    let mut run = Run::new(random, opening, LONGEST_LOG);
+    let mut fork = Fork::new(&run);
+    for _ in 0..common {
+        fork.grow_one(&mut run, 0);
+    }
+    fork.tips[1] = fork.tips[0];
+    for _ in 0..pairs {
+        fork.grow(&mut run);
+        disturb(&mut run, &fork);
+    }
+    for _ in 0..race {
+        let chain = run.random.below(2);
+        fork.grow_one(&mut run, chain);
+        disturb(&mut run, &fork);
+    }
+    for _ in 0..usual {
+        smooth_epoch(&mut run);
+    }
+    run
+}
+
+/// A bad office leads so many epochs, any offices lead the usual ones.
+fn opening_of(random: &mut Random, bad: usize, usual: usize) -> Opening {
+    let opening = opening_with_bad(random);
+    let untrusted = |office: &u8| opening.trust >> office & 1 == 0;
+    let bad_leader = (0..opening.n).find(untrusted).expect("a bad office");
+    let mut schedule = vec![Office(bad_leader); bad];
+    schedule.extend((0..usual).map(|_| Office(random.below(opening.n.into()) as u8)));
+    Opening {
+        schedule,
+        ..opening
+    }
+}
+
+/// Sometimes a voter tries to finalise, sometimes a random step is taken.
+fn disturb(run: &mut Run, fork: &Fork) {
+    if run.random.chance(30) {
+        let voter = run.random.pick(&fork.voters);
+        let tip = run.random.pick(&fork.tips);
+        run.finalise(voter, tip);
+    }
+    if run.random.chance(15) {
+        let step = noise::step(run);
+        run.take(step);
+    }
+}
