@@ -9,7 +9,8 @@ use lib.Dec.{eqb}
 use Rattle.words.specs.Tests.{both, member}
 use Rattle.words.specs.Sums.{tally, unit, weigh}
 use Rattle.words.proofs.Tests.{both-right, either-cases, any-at}
-use Rattle.words.proofs.Sums.{quorum, always, tally-always}
+use Rattle.words.proofs.Sums.{always, tally-always}
+use Rattle.quorum.proofs.Quorum.{quorum}
 use Rattle.register.specs.declared.book.Book.{Book}
 use Rattle.register.specs.Tables.{trusted, parentOf, epochOf}
 use Rattle.register.specs.Views.{inView, says, signed, notarised}

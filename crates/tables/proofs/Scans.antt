@@ -16,33 +16,33 @@ use Rattle.tables.specs.Messages.{view, saysIn, historyIn}
 use Rattle.tables.specs.Searches.{signedIn}
 
 -- message m is in office q's view, and has that signer and that block
-abbrev pub signs : (places signers subjects : List ℕ) → (q signer b : ℕ) → (m : ℕ) → Bool
-signs places signers subjects q signer b m = both (eqb (digit 4 (getD places m 0) q) view) (saysIn signers subjects signer b m)
+abbrev pub signs : (places signers about : List ℕ) → (q signer b : ℕ) → (m : ℕ) → Bool
+signs places signers about q signer b m = both (eqb (digit 4 (getD places m 0) q) view) (saysIn signers about signer b m)
 
-module _ (places signers subjects : List ℕ) (q s b from : ℕ) where
+module _ (places signers about : List ℕ) (q s b from : ℕ) where
   -- where no message of the chunk that starts at `from` is about the block, the chunk's first messages tell nothing new of a signature on it
-  pub signed-past : (size : ℕ) → size ≤ 64 → any 64 (λ i. eqb (getD subjects (from + i) 0) b) ≡ false
-      → signedIn places signers subjects from q s b ≡ signedIn places signers subjects (from + size) q s b
+  pub signed-past : (size : ℕ) → size ≤ 64 → any 64 (λ i. eqb (getD about (from + i) 0) b) ≡ false
+      → signedIn places signers about from q s b ≡ signedIn places signers about (from + size) q s b
   unfolding signedIn saysIn any
   signed-past zero few none = rw add-zero
   signed-past (suc size) few none =
-      rw (add-suc, any-none (λ i. eqb (getD subjects (from + i) 0) b) 64 size none (omega arith), both-none, both-none, either-none)
+      rw (add-suc, any-none (λ i. eqb (getD about (from + i) 0) b) 64 size none (omega arith), both-none, both-none, either-none)
       (signed-past size (omega arith) none)
 
   -- one message more of the chunk
-  pub signed-next : (i : ℕ) (found inside mine : Bool) → found ≡ signedIn places signers subjects (from + i) q s b
-      → inside ≡ eqb (digit 4 (getD places (from + i) 0) q) view → mine ≡ saysIn signers subjects s b (from + i)
-      → found || (inside && mine) ≡ signedIn places signers subjects (from + (i + 1)) q s b
+  pub signed-next : (i : ℕ) (found inside mine : Bool) → found ≡ signedIn places signers about (from + i) q s b
+      → inside ≡ eqb (digit 4 (getD places (from + i) 0) q) view → mine ≡ saysIn signers about s b (from + i)
+      → found || (inside && mine) ≡ signedIn places signers about (from + (i + 1)) q s b
   unfolding signedIn
   signed-next i found inside mine e ei em =
-      rw (← (add-assoc from i 1)) (any-next (signs places signers subjects q s b) (from + i) found (inside && mine) e (and-both inside mine ∙ rw (ei, em)))
+      rw (← (add-assoc from i 1)) (any-next (signs places signers about q s b) (from + i) found (inside && mine) e (and-both inside mine ∙ rw (ei, em)))
 
 -- one message more of the history
-pub history-next : (votes : List Bool) (signers subjects : List ℕ) (vote : Bool) (s b m : ℕ) (found mine : Bool)
-    → found ≡ historyIn votes signers subjects m vote s b → mine ≡ saysIn signers subjects s b m
-    → found || (Bool·beq (getD votes m false) vote && mine) ≡ historyIn votes signers subjects (m + 1) vote s b
+pub history-next : (votes : List Bool) (signers about : List ℕ) (vote : Bool) (s b m : ℕ) (found mine : Bool)
+    → found ≡ historyIn votes signers about m vote s b → mine ≡ saysIn signers about s b m
+    → found || (Bool·beq (getD votes m false) vote && mine) ≡ historyIn votes signers about (m + 1) vote s b
 unfolding historyIn
-history-next votes signers subjects vote s b m found mine e em =
+history-next votes signers about vote s b m found mine e em =
     any-next _ m found _ e (and-agree (getD votes m false) vote mine ∙ rw em)
 
 -- the block that is named is from 1 up to the next number

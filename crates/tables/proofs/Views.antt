@@ -52,19 +52,19 @@ getD-tabulate zero f k h = absurd (omega arith)
 getD-tabulate (suc n) f zero h = refl
 getD-tabulate (suc n) f (suc k) h = getD-tabulate n (λ k. f (suc k)) k (omega arith)
 
-module _ (places signers subjects : List ℕ) (count q : ℕ) where
+module _ (places signers about : List ℕ) (count q : ℕ) where
   -- what a view has for a block is the set of its signers
-  pub view-entry : (b : ℕ) → b < blocks → getD (viewIn places signers subjects count q) b 0 ≡ signersIn places signers subjects count q b
+  pub view-entry : (b : ℕ) → b < blocks → getD (viewIn places signers about count q) b 0 ≡ signersIn places signers about count q b
   unfolding viewIn
-  view-entry b h = getD-tabulate blocks (signersIn places signers subjects count q) b h
+  view-entry b h = getD-tabulate blocks (signersIn places signers about count q) b h
 
   -- sets that hold each block's signers are the view
   view-ext : (sets : List ℕ) → length sets ≡ blocks
-      → ((b : ℕ) → b < blocks → getD sets b 0 ≡ setOf (λ s. signedIn places signers subjects count q s b))
-      → sets ≡ viewIn places signers subjects count q
+      → ((b : ℕ) → b < blocks → getD sets b 0 ≡ setOf (λ s. signedIn places signers about count q s b))
+      → sets ≡ viewIn places signers about count q
   unfolding viewIn signersIn
   view-ext sets whole h =
-      ext-getD 0 sets (viewIn places signers subjects count q) (whole ∙ sym (length-tabulate blocks (signersIn places signers subjects count q)))
+      ext-getD 0 sets (viewIn places signers about count q) (whole ∙ sym (length-tabulate blocks (signersIn places signers about count q)))
       (λ b l. h b (omega arith) ∙ sym (view-entry b (omega arith)))
 
 -- to choose between two sets is the set of the choice between their tests
@@ -82,24 +82,24 @@ joins false true mine old = rw (both-none, either-none)
 joins false false mine old = rw either-none
 
 -- the set of a test, with the signer of a message that is about the block and in the view
-set-next : (f : ℕ → Bool) (w next place q signer subject b : ℕ) → w ≡ setOf f
-    → next ≡ choose (both (eqb subject b) (eqb (digit 4 place q) view)) (withMember w signer) w
-    → next ≡ setOf (λ s. either (f s) (both (eqb (digit 4 place q) view) (both (eqb signer s) (eqb subject b))))
-set-next f w next place q signer subject b h e =
+set-next : (f : ℕ → Bool) (w next place q signer about b : ℕ) → w ≡ setOf f
+    → next ≡ choose (both (eqb about b) (eqb (digit 4 place q) view)) (withMember w signer) w
+    → next ≡ setOf (λ s. either (f s) (both (eqb (digit 4 place q) view) (both (eqb signer s) (eqb about b))))
+set-next f w next place q signer about b h e =
     rw (e, member-set w signer, h, choose-set _ _ _) (set-ext _ _ (λ s l. rw (in-set f s l) (joins _ _ _ _)))
 
 -- what a message that was noted, in the view or not, does to the set of each block
-noted-entry : (sets : List ℕ) (inside : Bool) (subject signer b : ℕ) → length sets ≡ blocks → subject < blocks
-    → getD (choose inside (set sets subject (withMember (getD sets subject 0) signer)) sets) b 0
-    ≡ choose (both (eqb subject b) inside) (withMember (getD sets b 0) signer) (getD sets b 0)
+noted-entry : (sets : List ℕ) (inside : Bool) (about signer b : ℕ) → length sets ≡ blocks → about < blocks
+    → getD (choose inside (set sets about (withMember (getD sets about 0) signer)) sets) b 0
+    ≡ choose (both (eqb about b) inside) (withMember (getD sets b 0) signer) (getD sets b 0)
 unfolding choose
-noted-entry sets true subject signer b whole within =
-    elim (ℕ-discrete b subject) as
-    (λ _. getD (set sets subject (withMember (getD sets subject 0) signer)) b 0 ≡ choose (both (eqb subject b) true) (withMember (getD sets b 0) signer) (getD sets b 0)) [
-      | yes here ↦ rw (here, eq-eqb subject subject refl, both-all) (getD-set-same sets subject _ 0 (omega arith))
-      | no there ↦ rw (ne-eqb subject b (λ o. there (sym o)), both-all) (getD-set-other sets subject b _ 0 there)
+noted-entry sets true about signer b whole within =
+    elim (ℕ-discrete b about) as
+    (λ _. getD (set sets about (withMember (getD sets about 0) signer)) b 0 ≡ choose (both (eqb about b) true) (withMember (getD sets b 0) signer) (getD sets b 0)) [
+      | yes here ↦ rw (here, eq-eqb about about refl, both-all) (getD-set-same sets about _ 0 (omega arith))
+      | no there ↦ rw (ne-eqb about b (λ o. there (sym o)), both-all) (getD-set-other sets about b _ 0 there)
     ]
-noted-entry sets false subject signer b whole within = rw both-none
+noted-entry sets false about signer b whole within = rw both-none
 
 -- a message below the one or from the other up
 unfoldable pub outside : (low high : ℕ) → ℕ → Bool
@@ -146,10 +146,10 @@ outside-next low high m h =
           ])
     ]
 
-module _ (places signers subjects : List ℕ) (count q : ℕ) where
+module _ (places signers about : List ℕ) (count q : ℕ) where
   -- office s signed block b in the view, by one of the messages that a test picks
   abbrev signed-by : (picked : ℕ → Bool) → (b s : ℕ) → Bool
-  signed-by picked b s = any count (λ m. both (picked m) (signs places signers subjects q s b m))
+  signed-by picked b s = any count (λ m. both (picked m) (signs places signers about q s b m))
 
   -- the sets hold each block's signers of those messages
   abbrev pub Gathered : (picked : ℕ → Bool) → (sets : List ℕ) → Type 0
@@ -166,8 +166,8 @@ module _ (places signers subjects : List ℕ) (count q : ℕ) where
   -- what noting message m makes of the sets
   abbrev pub Noted : (m : ℕ) → (sets noted : List ℕ) → Type 0
   Noted m sets noted =
-      (noted ≡ choose (eqb (digit 4 (getD places m 0) q) view) (set sets (getD subjects m 0) (withMember (getD sets (getD subjects m 0) 0) (getD signers m 0))) sets)
-      × (getD subjects m 0 < blocks)
+      (noted ≡ choose (eqb (digit 4 (getD places m 0) q) view) (set sets (getD about m 0) (withMember (getD sets (getD about m 0) 0) (getD signers m 0))) sets)
+      × (getD about m 0 < blocks)
 
   -- they hold its signer too
   gather-noted : (picked : ℕ → Bool) (m : ℕ) (sets noted : List ℕ) → m < count → length sets ≡ blocks → Gathered picked sets → Noted m sets noted
@@ -175,7 +175,7 @@ module _ (places signers subjects : List ℕ) (count q : ℕ) where
   unfolding saysIn
   gather-noted picked m sets noted below whole h (n, within) b l =
       set-next (signed-by picked b) (getD sets b 0) _ _ q _ _ b (h b l) (rw n (noted-entry sets _ _ _ b whole within))
-      ∙ set-ext _ (signed-by (λ k. either (picked k) (eqb k m)) b) (λ s k. sym (any-with picked (signs places signers subjects q s b) count m below))
+      ∙ set-ext _ (signed-by (λ k. either (picked k) (eqb k m)) b) (λ s k. sym (any-with picked (signs places signers about q s b) count m below))
 
   -- and are as many
   noted-whole : (m : ℕ) (sets noted : List ℕ) → length sets ≡ blocks → Noted m sets noted → length noted ≡ blocks
@@ -198,40 +198,40 @@ module _ (places signers subjects : List ℕ) (count q : ℕ) where
 
   -- all messages
   pub gather-all : (low high : ℕ) (sets : List ℕ) → high ≤ low → length sets ≡ blocks → Gathered (outside low high) sets
-      → sets ≡ viewIn places signers subjects count q
+      → sets ≡ viewIn places signers about count q
   unfolding both signedIn
   gather-all low high sets l whole h =
-      view-ext places signers subjects count q sets whole
+      view-ext places signers about count q sets whole
       (λ b k.
       h b k
-      ∙ set-ext (signed-by (outside low high) b) (λ s. signedIn places signers subjects count q s b)
+      ∙ set-ext (signed-by (outside low high) b) (λ s. signedIn places signers about count q s b)
       (λ s below. any-same _ _ count (λ m within. rw (outside-all low high m l))))
 
-module _ (places signers subjects : List ℕ) (q b : ℕ) where
+module _ (places signers about : List ℕ) (q b : ℕ) where
   -- no messages, no signers
-  pub signers-none : 0 ≡ signersIn places signers subjects 0 q b
+  pub signers-none : 0 ≡ signersIn places signers about 0 q b
   unfolding signersIn signedIn any setOf fill choose
   signers-none = refl
 
   -- one message more: the signers by the messages before a chunk and its first i + 1
-  pub signers-next : (from i w next : ℕ) → w ≡ signersIn places signers subjects (from + i) q b
-      → next ≡ choose (both (eqb (getD subjects (from + i) 0) b) (eqb (digit 4 (getD places (from + i) 0) q) view)) (withMember w (getD signers (from + i) 0)) w
-      → next ≡ signersIn places signers subjects (from + (i + 1)) q b
+  pub signers-next : (from i w next : ℕ) → w ≡ signersIn places signers about (from + i) q b
+      → next ≡ choose (both (eqb (getD about (from + i) 0) b) (eqb (digit 4 (getD places (from + i) 0) q) view)) (withMember w (getD signers (from + i) 0)) w
+      → next ≡ signersIn places signers about (from + (i + 1)) q b
   unfolding signersIn signedIn saysIn any
   signers-next from i w next h e = set-next _ w next _ q _ _ b h e ∙ set-ext _ _ (λ s l. rw (add-one, add-suc))
 
   -- a chunk with no message about the block adds no signer
-  pub signers-past : (from size w : ℕ) → size ≤ 64 → w ≡ signersIn places signers subjects from q b
-      → any 64 (λ i. eqb (getD subjects (from + i) 0) b) ≡ false → w ≡ signersIn places signers subjects (from + size) q b
+  pub signers-past : (from size w : ℕ) → size ≤ 64 → w ≡ signersIn places signers about from q b
+      → any 64 (λ i. eqb (getD about (from + i) 0) b) ≡ false → w ≡ signersIn places signers about (from + size) q b
   unfolding signersIn
   signers-past from size w few h none =
-      h ∙ set-ext _ (λ s. signedIn places signers subjects (from + size) q s b) (λ s l. signed-past places signers subjects q s b from size few none)
+      h ∙ set-ext _ (λ s. signedIn places signers about (from + size) q s b) (λ s l. signed-past places signers about q s b from size few none)
 
   -- what a view has for the block is enough where its signers are
   pub view-enough : (count n : ℕ) → n ≤ offices → b < blocks
-      → enoughIn (getD (viewIn places signers subjects count q) b 0) n ≡ enough (tally n (λ s. signedIn places signers subjects count q s b)) n
+      → enoughIn (getD (viewIn places signers about count q) b 0) n ≡ enough (tally n (λ s. signedIn places signers about count q s b)) n
   unfolding signersIn
   view-enough count n few l =
-      rw (view-entry places signers subjects count q b l)
+      rw (view-entry places signers about count q b l)
       (ap (λ (k : ℕ). enough k n)
-      (tally-ext n _ (λ s. signedIn places signers subjects count q s b) (λ s h. in-set _ s (omega arith))))
+      (tally-ext n _ (λ s. signedIn places signers about count q s b) (λ s h. in-set _ s (omega arith))))

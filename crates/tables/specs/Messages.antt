@@ -20,10 +20,10 @@ abbrev pub view : ℕ
 view = 3
 
 -- message m has that signer and that block
-unfoldable pub saysIn : (signers subjects : List ℕ) → (signer b : ℕ) → (m : ℕ) → Bool
-saysIn signers subjects signer b m = both (eqb (getD signers m 0) signer) (eqb (getD subjects m 0) b)
+unfoldable pub saysIn : (signers about : List ℕ) → (signer b : ℕ) → (m : ℕ) → Bool
+saysIn signers about signer b m = both (eqb (getD signers m 0) signer) (eqb (getD about m 0) b)
 
 -- a message of that kind, signer and block has been sent
-unfoldable pub historyIn : (votes : List Bool) → (signers subjects : List ℕ) → (count : ℕ) → (vote : Bool) → (signer b : ℕ) → Bool
-historyIn votes signers subjects count vote signer b =
-    any count (λ m. both (agree (getD votes m false) vote) (saysIn signers subjects signer b m))
+unfoldable pub historyIn : (votes : List Bool) → (signers about : List ℕ) → (count : ℕ) → (vote : Bool) → (signer b : ℕ) → Bool
+historyIn votes signers about count vote signer b =
+    any count (λ m. both (agree (getD votes m false) vote) (saysIn signers about signer b m))

@@ -24,17 +24,17 @@ abbrev pub offices : ℕ
 offices = 32
 
 -- a signature on block b is in the view of office q, which is trusted: a message there has that signer and that block
-unfoldable pub signedIn : (places signers subjects : List ℕ) → (count : ℕ) → (q signer b : ℕ) → Bool
-signedIn places signers subjects count q signer b =
-    any count (λ m. both (eqb (digit 4 (getD places m 0) q) view) (saysIn signers subjects signer b m))
+unfoldable pub signedIn : (places signers about : List ℕ) → (count : ℕ) → (q signer b : ℕ) → Bool
+signedIn places signers about count q signer b =
+    any count (λ m. both (eqb (digit 4 (getD places m 0) q) view) (saysIn signers about signer b m))
 
 -- the set of the offices of which a test holds, as a word
 unfoldable pub setOf : (ℕ → Bool) → ℕ
 setOf p = fill 2 offices (λ s. choose (p s) 1 0)
 
 -- the signers of block b in office q's view, as a set
-unfoldable pub signersIn : (places signers subjects : List ℕ) → (count : ℕ) → (q b : ℕ) → ℕ
-signersIn places signers subjects count q b = setOf (λ s. signedIn places signers subjects count q s b)
+unfoldable pub signersIn : (places signers about : List ℕ) → (count : ℕ) → (q b : ℕ) → ℕ
+signersIn places signers about count q b = setOf (λ s. signedIn places signers about count q s b)
 
 -- the values of a function at each number below n
 unfoldable pub tabulate : (n : ℕ) → (ℕ → ℕ) → List ℕ
@@ -42,8 +42,8 @@ tabulate zero f = []
 tabulate (suc n) f = f zero ∷ tabulate n (λ k. f (suc k))
 
 -- office q's view: the signers of each block
-unfoldable pub viewIn : (places signers subjects : List ℕ) → (count : ℕ) → (q : ℕ) → List ℕ
-viewIn places signers subjects count q = tabulate blocks (signersIn places signers subjects count q)
+unfoldable pub viewIn : (places signers about : List ℕ) → (count : ℕ) → (q : ℕ) → List ℕ
+viewIn places signers about count q = tabulate blocks (signersIn places signers about count q)
 
 -- the members of a set are enough signers of n offices
 abbrev pub enoughIn : (set n : ℕ) → Bool

@@ -201,17 +201,17 @@ fn is_certified_in<'a>(
     count: usize,
     places: &'a [u64; 1024],
     signers: &'a [u8; 1024],
-    subjects: &'a [u8; 1024],
+    about: &'a [u8; 1024],
     parents: &'a [u8; 256],
     epochs: &'a [u16; 256],
     q: u8,
     b: u8,
 ) -> bool
     requires { ⌜ n ≤ offices ⌝ }
-    ensures { λ r. ⌜ r ≡ certifiedIn (viewIn (lent places) (lent signers) (lent subjects) (min count messages) q)
+    ensures { λ r. ⌜ r ≡ certifiedIn (viewIn (lent places) (lent signers) (lent about) (min count messages) q)
         (lent parents) (lent epochs) last n b ⌝ }
 {
-    let set = signers_of(places, signers, subjects, count, q, b);
+    let set = signers_of(places, signers, about, count, q, b);
     is_certified(parents, epochs, last, n, b, set, EVERYONE)
 }
 
@@ -224,14 +224,14 @@ pub fn is_notarised_above<'a>(
     count: usize,
     places: &'a [u64; 1024],
     signers: &'a [u8; 1024],
-    subjects: &'a [u8; 1024],
+    about: &'a [u8; 1024],
     parents: &'a [u8; 256],
     epochs: &'a [u16; 256],
     q: u8,
     b: u8,
     base: u8,
 ) -> bool
-    ensures { λ r. ⌜ r ≡ certifiedAbove (viewIn (lent places) (lent signers) (lent subjects) (min count messages) q)
+    ensures { λ r. ⌜ r ≡ certifiedAbove (viewIn (lent places) (lent signers) (lent about) (min count messages) q)
         (lent parents) (lent epochs) last (min n offices) b base ⌝ }
 {
     let few = office_count(n);
@@ -247,7 +247,7 @@ pub fn is_notarised_above<'a>(
             count,
             places,
             signers,
-            subjects,
+            about,
             parents,
             epochs,
             q,
@@ -258,6 +258,6 @@ pub fn is_notarised_above<'a>(
         at = parent_at(parents, last, at);
         tested += 1;
     }
-    let view = view_of(places, signers, subjects, count, q);
+    let view = view_of(places, signers, about, count, q);
     rank_of(&view, parents, epochs, last, few, at, base) > 0
 }

@@ -90,30 +90,30 @@ pub fn name_block<'a>(
 }
 
 // Message m has that signer and that block.
-fn says<'a>(signers: &'a [u8; 1024], subjects: &'a [u8; 1024], signer: u8, b: u8, m: usize) -> bool
+fn says<'a>(signers: &'a [u8; 1024], about: &'a [u8; 1024], signer: u8, b: u8, m: usize) -> bool
     requires { ⌜ m < 1024 ⌝ }
-    ensures { λ r. ⌜ r ≡ saysIn (lent signers) (lent subjects) signer b m ⌝ }
+    ensures { λ r. ⌜ r ≡ saysIn (lent signers) (lent about) signer b m ⌝ }
 {
-    (signers[m] == signer) & (subjects[m] == b)
+    (signers[m] == signer) & (about[m] == b)
 }
 
 // A message of that kind, signer and block has been sent.
 pub fn in_history<'a>(
     votes: &'a [bool; 1024],
     signers: &'a [u8; 1024],
-    subjects: &'a [u8; 1024],
+    about: &'a [u8; 1024],
     count: usize,
     vote: bool,
     signer: u8,
     b: u8,
 ) -> bool
-    ensures { λ r. ⌜ r ≡ historyIn (lent votes) (lent signers) (lent subjects) (min count messages) vote signer b ⌝ }
+    ensures { λ r. ⌜ r ≡ historyIn (lent votes) (lent signers) (lent about) (min count messages) vote signer b ⌝ }
 {
     let sent = message_count(count);
     let mut found = false;
     let mut m = 0;
     while m < sent {
-        found = found | ((votes[m] == vote) & says(signers, subjects, signer, b, m));
+        found = found | ((votes[m] == vote) & says(signers, about, signer, b, m));
         m += 1;
     }
     found
@@ -121,14 +121,14 @@ pub fn in_history<'a>(
 
 // One of the messages of the chunk that starts at `from` is about block b. The loop has no branch, so that many entries are
 // compared at once.
-pub(crate) fn chunk_about<'a>(subjects: &'a [u8; 1024], from: usize, b: u8) -> bool
+pub(crate) fn chunk_about<'a>(about: &'a [u8; 1024], from: usize, b: u8) -> bool
     requires { ⌜ from ≤ 960 ⌝ }
-    ensures { λ r. ⌜ r ≡ any 64 (λ i. eqb (getD (lent subjects) (from + i) 0) b) ⌝ }
+    ensures { λ r. ⌜ r ≡ any 64 (λ i. eqb (getD (lent about) (from + i) 0) b) ⌝ }
 {
     let mut found = false;
     let mut i = 0;
     while i < CHUNK {
-        found = found | (subjects[from + i] == b);
+        found = found | (about[from + i] == b);
         i += 1;
     }
     found
@@ -139,7 +139,7 @@ pub(crate) fn chunk_about<'a>(subjects: &'a [u8; 1024], from: usize, b: u8) -> b
 fn chunk_signed<'a>(
     places: &'a [u64; 1024],
     signers: &'a [u8; 1024],
-    subjects: &'a [u8; 1024],
+    about: &'a [u8; 1024],
     from: usize,
     size: usize,
     q: u8,
@@ -147,10 +147,10 @@ fn chunk_signed<'a>(
     b: u8,
     found: bool,
 ) -> bool
-    requires { ⌜ (from ≤ 960) × (size ≤ 64) × (found ≡ signedIn (now places) (now signers) (now subjects) from q signer b) ⌝ }
-    ensures { λ r. ⌜ r ≡ signedIn (lent places) (lent signers) (lent subjects) (from + size) q signer b ⌝ }
+    requires { ⌜ (from ≤ 960) × (size ≤ 64) × (found ≡ signedIn (now places) (now signers) (now about) from q signer b) ⌝ }
+    ensures { λ r. ⌜ r ≡ signedIn (lent places) (lent signers) (lent about) (from + size) q signer b ⌝ }
 {
-    if !chunk_about(subjects, from, b) {
+    if !chunk_about(about, from, b) {
         return found;
     }
     let mut signed = found;
@@ -158,7 +158,7 @@ fn chunk_signed<'a>(
     while i < size {
         let m = from + i;
         signed = signed
-            | (words::is_last_stage(places[m], q) & says(signers, subjects, signer, b, m));
+            | (words::is_last_stage(places[m], q) & says(signers, about, signer, b, m));
         i += 1;
     }
     signed
@@ -180,13 +180,13 @@ pub(crate) fn chunk_size(from: usize, count: usize) -> usize
 pub fn is_signed<'a>(
     places: &'a [u64; 1024],
     signers: &'a [u8; 1024],
-    subjects: &'a [u8; 1024],
+    about: &'a [u8; 1024],
     count: usize,
     q: u8,
     signer: u8,
     b: u8,
 ) -> bool
-    ensures { λ r. ⌜ r ≡ signedIn (lent places) (lent signers) (lent subjects) (min count messages) q signer b ⌝ }
+    ensures { λ r. ⌜ r ≡ signedIn (lent places) (lent signers) (lent about) (min count messages) q signer b ⌝ }
 {
     let sent = message_count(count);
     let mut found = false;
@@ -194,7 +194,7 @@ pub fn is_signed<'a>(
     while CHUNK * k < sent {
         let from = CHUNK * k;
         let size = chunk_size(from, sent);
-        found = chunk_signed(places, signers, subjects, from, size, q, signer, b, found);
+        found = chunk_signed(places, signers, about, from, size, q, signer, b, found);
         k += 1;
     }
     found

@@ -18,12 +18,12 @@ pub type View = [u32; 256];
 
 // One message more: where it is in office q's view, the last stage, its signer is among the signers of its block. A signer from 32 up is no
 // office, and no set has it. A block's number is below 256, which a caller that has it from a column learns here.
-fn note(sets: &mut View, place: u64, q: u8, signer: u8, subject: u8)
+fn note(sets: &mut View, place: u64, q: u8, signer: u8, about: u8)
     ensures { λ _. ⌜ (given sets ≡ choose (eqb (digit 4 place q) view)
-        (set (lent sets) subject (withMember (getD (lent sets) subject 0) signer)) (lent sets)) × (subject < blocks) ⌝ }
+        (set (lent sets) about (withMember (getD (lent sets) about 0) signer)) (lent sets)) × (about < blocks) ⌝ }
 {
     if words::is_last_stage(place, q) {
-        let b = subject as usize;
+        let b = about as usize;
         sets[b] = words::with_member(sets[b], signer);
     }
 }
@@ -33,11 +33,11 @@ fn note(sets: &mut View, place: u64, q: u8, signer: u8, subject: u8)
 pub fn view_of<'a>(
     places: &'a [u64; 1024],
     signers: &'a [u8; 1024],
-    subjects: &'a [u8; 1024],
+    about: &'a [u8; 1024],
     count: usize,
     q: u8,
 ) -> View
-    ensures { λ r. ⌜ r ≡ viewIn (lent places) (lent signers) (lent subjects) (min count messages) q ⌝ }
+    ensures { λ r. ⌜ r ≡ viewIn (lent places) (lent signers) (lent about) (min count messages) q ⌝ }
 {
     let sent = message_count(count);
     let mut sets = [0u32; 256];
@@ -45,18 +45,18 @@ pub fn view_of<'a>(
     let mut high = sent;
     while low < high {
         high -= 1;
-        note(&mut sets, places[low], q, signers[low], subjects[low]);
-        note(&mut sets, places[high], q, signers[high], subjects[high]);
+        note(&mut sets, places[low], q, signers[low], about[low]);
+        note(&mut sets, places[high], q, signers[high], about[high]);
         low += 1;
     }
     sets
 }
 
 // The set with one more message's signer, where the message is about block b and in office q's view, the last stage; else the set as it is.
-fn with_signer(set: u32, place: u64, q: u8, signer: u8, subject: u8, b: u8) -> u32
-    ensures { λ r. ⌜ r ≡ choose (both (eqb subject b) (eqb (digit 4 place q) view)) (withMember set signer) set ⌝ }
+fn with_signer(set: u32, place: u64, q: u8, signer: u8, about: u8, b: u8) -> u32
+    ensures { λ r. ⌜ r ≡ choose (both (eqb about b) (eqb (digit 4 place q) view)) (withMember set signer) set ⌝ }
 {
-    if subject != b {
+    if about != b {
         return set;
     }
     if !words::is_last_stage(place, q) {
@@ -70,24 +70,24 @@ fn with_signer(set: u32, place: u64, q: u8, signer: u8, subject: u8, b: u8) -> u
 fn chunk_signers<'a>(
     places: &'a [u64; 1024],
     signers: &'a [u8; 1024],
-    subjects: &'a [u8; 1024],
+    about: &'a [u8; 1024],
     from: usize,
     size: usize,
     q: u8,
     b: u8,
     set: u32,
 ) -> u32
-    requires { ⌜ (from ≤ 960) × (size ≤ 64) × (set ≡ signersIn (now places) (now signers) (now subjects) from q b) ⌝ }
-    ensures { λ r. ⌜ r ≡ signersIn (lent places) (lent signers) (lent subjects) (from + size) q b ⌝ }
+    requires { ⌜ (from ≤ 960) × (size ≤ 64) × (set ≡ signersIn (now places) (now signers) (now about) from q b) ⌝ }
+    ensures { λ r. ⌜ r ≡ signersIn (lent places) (lent signers) (lent about) (from + size) q b ⌝ }
 {
-    if !chunk_about(subjects, from, b) {
+    if !chunk_about(about, from, b) {
         return set;
     }
     let mut all = set;
     let mut i = 0;
     while i < size {
         let m = from + i;
-        all = with_signer(all, places[m], q, signers[m], subjects[m], b);
+        all = with_signer(all, places[m], q, signers[m], about[m], b);
         i += 1;
     }
     all
@@ -97,12 +97,12 @@ fn chunk_signers<'a>(
 pub fn signers_of<'a>(
     places: &'a [u64; 1024],
     signers: &'a [u8; 1024],
-    subjects: &'a [u8; 1024],
+    about: &'a [u8; 1024],
     count: usize,
     q: u8,
     b: u8,
 ) -> u32
-    ensures { λ r. ⌜ r ≡ signersIn (lent places) (lent signers) (lent subjects) (min count messages) q b ⌝ }
+    ensures { λ r. ⌜ r ≡ signersIn (lent places) (lent signers) (lent about) (min count messages) q b ⌝ }
 {
     let sent = message_count(count);
     let mut set = 0;
@@ -110,7 +110,7 @@ pub fn signers_of<'a>(
     while CHUNK * k < sent {
         let from = CHUNK * k;
         let size = chunk_size(from, sent);
-        set = chunk_signers(places, signers, subjects, from, size, q, b, set);
+        set = chunk_signers(places, signers, about, from, size, q, b, set);
         k += 1;
     }
     set

@@ -14,12 +14,12 @@ use Rattle.tables.proofs.chain.is_notarised_above.Statement.{statement}
 use Rattle.tables.proofs.chain.is_notarised_above.Tie as tie
 
 abbrev Inv-loop : tie.InvT-loop
-Inv-loop n last count places signers subjects parents epochs q b base few at₀ tested₀ at tested =
-    let view : List ℕ = viewIn places signers subjects (min count messages) q in
+Inv-loop n last count places signers about parents epochs q b base few at₀ tested₀ at tested =
+    let view : List ℕ = viewIn places signers about (min count messages) q in
     (tested ≤ 2) × (certifiedAbove view parents epochs last few b base ≡ certifiedAbove view parents epochs last few at base)
 
 abbrev μ-loop : tie.MeasureT-loop
-μ-loop n last count places signers subjects parents epochs q b base few at₀ tested₀ at tested = 2 - tested
+μ-loop n last count places signers about parents epochs q b base few at₀ tested₀ at tested = 2 - tested
 
 returns : tie.Need-returns Inv-loop μ-loop
 returns c =
@@ -38,7 +38,7 @@ is-certified-in-requires c κs = omega (arith, c .before .before .before .before
 returns-2 : tie.Need-returns-2 Inv-loop μ-loop
 returns-2 c =
     let a = c .before .before .before .before .before .before .before .args in
-    let stop = stop-certified (viewIn (a .places .now) (a .signers .now) (a .subjects .now) (min (a .count) messages) (a .q)) (a .parents .now)
+    let stop = stop-certified (viewIn (a .places .now) (a .signers .now) (a .about .now) (min (a .count) messages) (a .q)) (a .parents .now)
     (a .epochs .now) (a .last) (c .before .before .before .before .before .before .office-count .result) (a .base)
     (c .before .before .before .before .before .loop .at)
     (unended (c .before .before)) _ (c .before .is-certified-in .ensures) (not-true _ (c .if2 .taken)) in
@@ -47,7 +47,7 @@ returns-2 c =
 loop-again : tie.Need-loop-again Inv-loop μ-loop
 loop-again c =
     let a = c .before .before .before .before .before .before .before .before .args in
-    let next = next-certified (viewIn (a .places .now) (a .signers .now) (a .subjects .now) (min (a .count) messages) (a .q)) (a .parents .now)
+    let next = next-certified (viewIn (a .places .now) (a .signers .now) (a .about .now) (min (a .count) messages) (a .q)) (a .parents .now)
     (a .epochs .now) (a .last) (c .before .before .before .before .before .before .before .office-count .result) (a .base)
     (c .before .before .before .before .before .before .loop .at)
     (unended (c .before .before .before)) _ (c .before .before .is-certified-in .ensures) (not-false _ (c .before .if2 .left)) in

@@ -11,10 +11,10 @@ use Rattle.tables.proofs.scan.chunk_about.Statement.{statement}
 use Rattle.tables.proofs.scan.chunk_about.Tie as tie
 
 abbrev Inv-loop : tie.InvT-loop
-Inv-loop subjects from b found₀ i₀ found i = (i ≤ 64) × (found ≡ any i (λ k. eqb (getD subjects (from + k) 0) b))
+Inv-loop about from b found₀ i₀ found i = (i ≤ 64) × (found ≡ any i (λ k. eqb (getD about (from + k) 0) b))
 
 abbrev μ-loop : tie.MeasureT-loop
-μ-loop subjects from b found₀ i₀ found i = 64 - i
+μ-loop about from b found₀ i₀ found i = 64 - i
 
 loop-holds : tie.Need-loop-holds Inv-loop μ-loop
 unfolding any

@@ -11,11 +11,11 @@ use Rattle.tables.proofs.scan.chunk_signed.Statement.{statement}
 use Rattle.tables.proofs.scan.chunk_signed.Tie as tie
 
 abbrev Inv-loop : tie.InvT-loop
-Inv-loop places signers subjects from size q signer b found signed₀ i₀ signed i =
-    (i ≤ size) × (signed ≡ signedIn places signers subjects (from + i) q signer b)
+Inv-loop places signers about from size q signer b found signed₀ i₀ signed i =
+    (i ≤ size) × (signed ≡ signedIn places signers about (from + i) q signer b)
 
 abbrev μ-loop : tie.MeasureT-loop
-μ-loop places signers subjects from size q signer b found signed₀ i₀ signed i = size - i
+μ-loop places signers about from size q signer b found signed₀ i₀ signed i = size - i
 
 returns : tie.Need-returns Inv-loop μ-loop
 returns c =

@@ -10,10 +10,10 @@ use Rattle.tables.proofs.scan.in_history.Statement.{statement}
 use Rattle.tables.proofs.scan.in_history.Tie as tie
 
 abbrev Inv-loop : tie.InvT-loop
-Inv-loop votes signers subjects count vote signer b sent found₀ m₀ found m = (m ≤ sent) × (found ≡ historyIn votes signers subjects m vote signer b)
+Inv-loop votes signers about count vote signer b sent found₀ m₀ found m = (m ≤ sent) × (found ≡ historyIn votes signers about m vote signer b)
 
 abbrev μ-loop : tie.MeasureT-loop
-μ-loop votes signers subjects count vote signer b sent found₀ m₀ found m = sent - m
+μ-loop votes signers about count vote signer b sent found₀ m₀ found m = sent - m
 
 loop-holds : tie.Need-loop-holds Inv-loop μ-loop
 unfolding historyIn any
@@ -22,7 +22,7 @@ loop-holds c = (search needs, refl)
 loop-again : tie.Need-loop-again Inv-loop μ-loop
 loop-again c =
     let a = c .before .before .before .before .before .args in
-    (search needs, history-next (a .votes .now) (a .signers .now) (a .subjects .now) _ _ _ _ _ _ (c .before .before .before .loop .inv .1) (c .says .ensures))
+    (search needs, history-next (a .votes .now) (a .signers .now) (a .about .now) _ _ _ _ _ _ (c .before .before .before .loop .inv .1) (c .says .ensures))
 
 returns : tie.Need-returns Inv-loop μ-loop
 returns c =

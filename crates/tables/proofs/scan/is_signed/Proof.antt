@@ -9,10 +9,10 @@ use Rattle.tables.proofs.scan.is_signed.Statement.{statement}
 use Rattle.tables.proofs.scan.is_signed.Tie as tie
 
 abbrev Inv-loop : tie.InvT-loop
-Inv-loop places signers subjects count q signer b sent found₀ k₀ found k = (k ≤ 16) × (found ≡ signedIn places signers subjects (min (64 * k) sent) q signer b)
+Inv-loop places signers about count q signer b sent found₀ k₀ found k = (k ≤ 16) × (found ≡ signedIn places signers about (min (64 * k) sent) q signer b)
 
 abbrev μ-loop : tie.MeasureT-loop
-μ-loop places signers subjects count q signer b sent found₀ k₀ found k = 16 - k
+μ-loop places signers about count q signer b sent found₀ k₀ found k = 16 - k
 
 loop-holds : tie.Need-loop-holds Inv-loop μ-loop
 unfolding signedIn any

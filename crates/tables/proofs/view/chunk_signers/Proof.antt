@@ -11,17 +11,17 @@ use Rattle.tables.proofs.view.chunk_signers.Statement.{statement}
 use Rattle.tables.proofs.view.chunk_signers.Tie as tie
 
 abbrev Inv-loop : tie.InvT-loop
-Inv-loop places signers subjects from size q b set all₀ i₀ all i =
-    (i ≤ size) × (all ≡ signersIn places signers subjects (from + i) q b)
+Inv-loop places signers about from size q b set all₀ i₀ all i =
+    (i ≤ size) × (all ≡ signersIn places signers about (from + i) q b)
 
 abbrev μ-loop : tie.MeasureT-loop
-μ-loop places signers subjects from size q b set all₀ i₀ all i = size - i
+μ-loop places signers about from size q b set all₀ i₀ all i = size - i
 
 returns : tie.Need-returns Inv-loop μ-loop
 returns c =
     let start = c .before .before in
     let a = start .args in
-    signers-past (a .places .now) (a .signers .now) (a .subjects .now) (a .q) (a .b) (a .from) (a .size) (a .set) (start .pre .1)
+    signers-past (a .places .now) (a .signers .now) (a .about .now) (a .q) (a .b) (a .from) (a .size) (a .set) (start .pre .1)
     (start .pre .2) (sym (c .before .chunk-about .ensures) ∙ not-true _ (c .if1 .taken))
 
 loop-holds : tie.Need-loop-holds Inv-loop μ-loop
@@ -33,7 +33,7 @@ loop-again c =
     let a = at-loop .before .before .before .args in
     let turn = at-loop .loop in (
       omega arith,
-      signers-next (a .places .now) (a .signers .now) (a .subjects .now) (a .q) (a .b) (a .from) (turn .i) (turn .all) (c .with-signer .result)
+      signers-next (a .places .now) (a .signers .now) (a .about .now) (a .q) (a .b) (a .from) (turn .i) (turn .all) (c .with-signer .result)
           (turn .inv .1) (c .with-signer .ensures),
     )
 

@@ -9,16 +9,16 @@ use Rattle.tables.proofs.view.signers_of.Statement.{statement}
 use Rattle.tables.proofs.view.signers_of.Tie as tie
 
 abbrev Inv-loop : tie.InvT-loop
-Inv-loop places signers subjects count q b sent set₀ k₀ set k = (k ≤ 16) × (set ≡ signersIn places signers subjects (min (64 * k) sent) q b)
+Inv-loop places signers about count q b sent set₀ k₀ set k = (k ≤ 16) × (set ≡ signersIn places signers about (min (64 * k) sent) q b)
 
 abbrev μ-loop : tie.MeasureT-loop
-μ-loop places signers subjects count q b sent set₀ k₀ set k = 16 - k
+μ-loop places signers about count q b sent set₀ k₀ set k = 16 - k
 
 loop-holds : tie.Need-loop-holds Inv-loop μ-loop
 loop-holds c =
     let a = c .before .args in
     let none : min (64 * 0) (c .message-count .result) ≡ 0 = omega arith in
-    (search needs, rw none (signers-none (a .places .now) (a .signers .now) (a .subjects .now) (a .q) (a .b)))
+    (search needs, rw none (signers-none (a .places .now) (a .signers .now) (a .about .now) (a .q) (a .b)))
 
 chunk-signers-requires : tie.Need-chunk-signers-requires Inv-loop μ-loop
 chunk-signers-requires c κs =

@@ -10,16 +10,16 @@ use Rattle.tables.proofs.view.view_of.Statement.{statement}
 use Rattle.tables.proofs.view.view_of.Tie as tie
 
 abbrev Inv-loop : tie.InvT-loop
-Inv-loop places signers subjects count q sent sets₀ low₀ high₀ sets low high =
-    (sent ≤ messages) × (low ≤ sent) × (high ≤ sent) × ((length sets ≡ blocks) × Gathered places signers subjects sent q (outside low high) sets)
+Inv-loop places signers about count q sent sets₀ low₀ high₀ sets low high =
+    (sent ≤ messages) × (low ≤ sent) × (high ≤ sent) × ((length sets ≡ blocks) × Gathered places signers about sent q (outside low high) sets)
 
 abbrev μ-loop : tie.MeasureT-loop
-μ-loop places signers subjects count q sent sets₀ low₀ high₀ sets low high = high - low
+μ-loop places signers about count q sent sets₀ low₀ high₀ sets low high = high - low
 
 loop-holds : tie.Need-loop-holds Inv-loop μ-loop
 loop-holds c =
     let a = c .before .args in
-    (search needs, search needs, search needs, (refl, gather-none (a .places .now) (a .signers .now) (a .subjects .now) (c .message-count .result) (a .q)))
+    (search needs, search needs, search needs, (refl, gather-none (a .places .now) (a .signers .now) (a .about .now) (c .message-count .result) (a .q)))
 
 loop-again : tie.Need-loop-again Inv-loop μ-loop
 loop-again c =
@@ -31,7 +31,7 @@ loop-again c =
       omega arith,
       omega arith,
       omega arith,
-      gather-turn (a .places .now) (a .signers .now) (a .subjects .now) (entry .message-count .result) (a .q) (turn .low) (turn .high) (turn .sets) _ _
+      gather-turn (a .places .now) (a .signers .now) (a .about .now) (entry .message-count .result) (a .q) (turn .low) (turn .high) (turn .sets) _ _
           (at-test .loop-test .taken) (turn .inv .2) (turn .inv .3 .0) (turn .inv .3 .1) (at-note .note .ensures) (c .note2 .ensures),
     )
 
@@ -41,7 +41,7 @@ returns c =
     let a = entry .before .args in
     let turn = c .before .loop in
     rw (← (entry .message-count .ensures))
-    (gather-all (a .places .now) (a .signers .now) (a .subjects .now) (entry .message-count .result) (a .q) (turn .low) (turn .high) (turn .sets)
+    (gather-all (a .places .now) (a .signers .now) (a .about .now) (entry .message-count .result) (a .q) (turn .low) (turn .high) (turn .sets)
     (c .loop-test .left) (turn .inv .3 .0) (turn .inv .3 .1))
 
 pub view-of-spec : {M : Type 1} → statement M
