@@ -157,8 +157,7 @@ fn chunk_signed<'a>(
     let mut i = 0;
     while i < size {
         let m = from + i;
-        signed = signed
-            | (words::is_last_stage(places[m], q) & says(signers, about, signer, b, m));
+        signed = signed | (words::is_last_stage(places[m], q) & says(signers, about, signer, b, m));
         i += 1;
     }
     signed
