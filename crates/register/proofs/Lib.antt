@@ -23,3 +23,4 @@ pub mod Writing
 pub mod Carrying
 pub mod Lending
 pub mod Running
+pub mod Makers

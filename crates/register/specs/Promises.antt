@@ -1,4 +1,4 @@
--- What is promised of fitness: an opening gives a fit register, and steps keep it fit.
+-- What makers may rely on, of every opening and every step.
 use Prim.Native.Nat.{ℕ}
 use mathlib.Core.Path.{_≡_}
 use mathlib.Core.Bool.{true}
@@ -9,8 +9,9 @@ use Rattle.register.specs.declared.table.Register.{Register}
 use Rattle.register.specs.declared.book.Book.{Book}
 use Rattle.register.specs.Books.{bookOf}
 use Rattle.register.specs.Fitness.{fit}
-use Rattle.register.specs.Opening.{opening}
+use Rattle.register.specs.Opening.{closed, opening}
 use Rattle.register.specs.Steps.{stepRule}
+use Rattle.register.specs.Runs.{Run, moment}
 
 -- the columns that a register's fitness depends on have the sizes that those of the code have; in the rules a column is a list of any length
 pub record Sizes (r : Book) : Type 0 where
@@ -28,3 +29,36 @@ OpeningsAreFit =
 unfoldable pub StepsKeepFit : Type 0
 StepsKeepFit =
     (r : Register) (step : Step) → Sizes (bookOf r) → fit (bookOf r) ≡ true → fit (bookOf (stepRule r step .register)) ≡ true
+
+-- After an opening that is not refused and any steps the register is fit.
+unfoldable pub RunsAreFit : Type 0
+RunsAreFit = (run : Run) (i : ℕ) → fit (bookOf (moment run i)) ≡ true
+
+-- A refused opening gives the closed register.
+unfoldable pub RefusedOpeningCloses : Type 0
+RefusedOpeningCloses =
+    (n trust : ℕ) (schedule : List ℕ) → (opening n trust schedule .refusal ≡ 0 → ⊥) → opening n trust schedule .register ≡ closed
+
+-- On the closed register every step gets 5, and leaves it closed.
+unfoldable pub ClosedGetsFive : Type 0
+ClosedGetsFive = (step : Step) → stepRule closed step ≡ record { register = closed; refusal = 5; value = 0 }
+
+-- A refused step gives the register back as it was, with value 0.
+unfoldable pub RefusedStepStays : Type 0
+RefusedStepStays =
+    (r : Register) (step : Step) → (stepRule r step .refusal ≡ 0 → ⊥)
+    → (stepRule r step .register ≡ r) × (stepRule r step .value ≡ 0)
+
+-- what an opening fixes: the number of offices, the trusted ones, and the schedule
+pub record Council : Type 0 where
+  pub n : ℕ
+  pub trust : ℕ
+  pub length : ℕ
+  pub leaders : List ℕ
+
+unfoldable pub councilOf : Book → Council
+councilOf r = record { n = r .n; trust = r .trust; length = r .length; leaders = r .leaders }
+
+-- No step changes it.
+unfoldable pub StepsKeepCouncil : Type 0
+StepsKeepCouncil = (r : Register) (step : Step) → councilOf (bookOf (stepRule r step .register)) ≡ councilOf (bookOf r)
