@@ -88,7 +88,7 @@ pub head-fits : (k w x : ℕ) → k < kinds → w ≤ 10 → x < 2 ^ w
 head-fits k w x h narrow small =
     let y : ℕ = 2 ^ w in
     let all : 2 ^ (4 + w) ≡ 16 * y = pow-add 2 4 w in
-    let most : k * y ≤ 8 * y = mul-le-mul-right y (omega arith) in
+    let most : k * y ≤ 15 * y = mul-le-mul-right y (omega arith) in
     let few : y ≤ 1024 = pow-mono {j = 10} narrow in
     let whole : k * y % 65536 ≡ k * y = mod-eq-of-lt (omega arith) in
     (rw whole, rw all (omega arith), omega arith)
