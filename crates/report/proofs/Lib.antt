@@ -5,3 +5,4 @@ pub mod PartLaws
 pub mod RunLaws
 pub mod RunText
 pub mod CheckLaws
+pub mod Claims

@@ -3,4 +3,5 @@ pub mod Text
 pub mod Bodies
 pub mod Parts
 pub mod Reports
+pub mod Claims
 pub mod Batches

@@ -1,0 +1,33 @@
+-- The claims of specs/Claims: a log that reads is a run.
+use Prim.Native.Nat.{ℕ}
+use mathlib.Core.Path.{_≡_, refl, ap}
+use mathlib.Core.Bool.{Bool, true, false}
+use borrow.Author.Tests.{eqb-true}
+use lib.Dec.{eqb}
+use Rattle.words.specs.Tests.{choose}
+use Rattle.register.specs.declared.table.Register.{Register}
+use Rattle.register.specs.Runs.{opened}
+use Rattle.packed_log.specs.Openings.{openingIn}
+use Rattle.packed_log.proofs.OpeningsReadBack.{opening-opens}
+use Rattle.report.specs.Reports.{runLines, bodyOf, faultOf, reportOf}
+use Rattle.report.specs.Claims.{LogsAreRuns}
+
+-- where neither the opening nor what stands behind it is refused, the opening is not
+none-first : (opening body : ℕ) → choose (eqb opening 0) body opening ≡ 0 → opening ≡ 0
+unfolding choose
+none-first opening body = by (eqb opening 0) refl
+  where
+    by : (t : Bool) → eqb opening 0 ≡ t → choose t body opening ≡ 0 → opening ≡ 0
+    by true h none = eqb-true opening 0 h
+    by false h none = none
+
+pub logs-are-runs : LogsAreRuns
+unfolding LogsAreRuns faultOf reportOf opened choose
+logs-are-runs log reads =
+    let opens = opening-opens log (none-first (openingIn log .refusal) (bodyOf log .refusal) reads) in
+    record {
+      run = record { n = _; trust = _; schedule = _; accepted = opens .0; steps = bodyOf log .steps };
+      opens = opens .1;
+      steps = refl;
+      reported = rw reads (ap (λ (r : Register). runLines r 1 (bodyOf log .steps)) (opens .1));
+    }
