@@ -1,16 +1,19 @@
--- The claims of specs/Claims: a log that reads is a run.
+-- The claims of specs/Claims: a log that reads is a run, and its final chains agree.
 use Prim.Native.Nat.{ℕ}
 use mathlib.Core.Path.{_≡_, refl, ap}
 use mathlib.Core.Bool.{Bool, true, false}
+use mathlib.Core.List.{List}
 use borrow.Author.Tests.{eqb-true}
 use lib.Dec.{eqb}
 use Rattle.words.specs.Tests.{choose}
 use Rattle.register.specs.declared.table.Register.{Register}
-use Rattle.register.specs.Runs.{opened}
+use Rattle.register.specs.Runs.{opened, moment}
+use Rattle.agreement.specs.Claim.{Agreement}
+use Rattle.agreement.proofs.Agreement.{agreement}
 use Rattle.packed_log.specs.Openings.{openingIn}
 use Rattle.packed_log.proofs.OpeningsReadBack.{opening-opens}
 use Rattle.report.specs.Reports.{runLines, bodyOf, faultOf, reportOf}
-use Rattle.report.specs.Claims.{LogsAreRuns}
+use Rattle.report.specs.Claims.{RunOf, LogsAreRuns, placeIn, LogsAgree}
 
 -- where neither the opening nor what stands behind it is refused, the opening is not
 none-first : (opening body : ℕ) → choose (eqb opening 0) body opening ≡ 0 → opening ≡ 0
@@ -31,3 +34,16 @@ logs-are-runs log reads =
       steps = refl;
       reported = rw reads (ap (λ (r : Register). runLines r 1 (bodyOf log .steps)) (opens .1));
     }
+
+-- the places of a log are the moments of the run that it holds
+place-moment : (log : List ℕ) (held : RunOf log) (i : ℕ) → placeIn log i ≡ moment (held .run) i
+unfolding placeIn moment
+place-moment log held i = rw (held .opens, held .steps)
+
+pub logs-agree : LogsAgree
+unfolding LogsAgree LogsAreRuns Agreement
+logs-agree log reads i j p q e =
+    let held : RunOf log = logs-are-runs log reads in
+    rw (place-moment log held i, place-moment log held j)
+    (λ finalist viewer notarised long.
+    agreement (held .run) i j p q e (record { finalist = finalist; viewer = viewer; notarised = notarised; long = long }))

@@ -1,8 +1,13 @@
--- What is claimed of logs: one that reads is a run.
-use Prim.Native.Nat.{ℕ}
+-- What is claimed of logs: one that reads is a run, and its final chains agree.
+use Prim.Native.Nat.{ℕ, _≤_}
 use mathlib.Core.Path.{_≡_}
 use mathlib.Core.List.{List}
-use Rattle.register.specs.Runs.{Run, opened}
+use lib.ListN.{length, take}
+use Rattle.register.specs.declared.sorts.Office.{Office}
+use Rattle.register.specs.declared.sorts.Block.{Block}
+use Rattle.register.specs.declared.table.Register.{Register}
+use Rattle.register.specs.Runs.{afterSteps, Run, opened}
+use Rattle.agreement.specs.Claim.{chainOf, finalChain, Trusted, Notarised, Begins}
 use Rattle.packed_log.specs.Openings.{openingIn}
 use Rattle.report.specs.Reports.{runLines, bodyOf, faultOf, reportOf}
 
@@ -13,6 +18,22 @@ pub record RunOf (log : List ℕ) : Type 0 where
   pub steps : bodyOf log .steps ≡ run .steps
   pub reported : reportOf log ≡ runLines (opened run) 1 (run .steps)
 
--- Every log that reads holds a run. So what is claimed of runs is claimed of logs.
+-- Every log that reads holds a run.
 unfoldable pub LogsAreRuns : Type 0
 LogsAreRuns = (log : List ℕ) → faultOf log ≡ 0 → RunOf log
+
+-- the register at a place of a log: after its opening and its first i steps
+unfoldable pub placeIn : (log : List ℕ) → (i : ℕ) → Register
+placeIn log i = afterSteps (openingIn log .register) (take i (bodyOf log .steps))
+
+-- Of every log that reads: a trusted office's final chain at any place of it begins every chain at least as long that is notarised in
+-- any trusted office's view at any place.
+unfoldable pub LogsAgree : Type 0
+LogsAgree =
+    (log : List ℕ) → faultOf log ≡ 0
+    → (i j : ℕ) (p q : Office) (e : Block)
+    → Trusted (placeIn log i) p
+    → Trusted (placeIn log j) q
+    → Notarised (placeIn log j) q e
+    → length (finalChain (placeIn log i) p) ≤ length (chainOf (placeIn log j) e)
+    → Begins (finalChain (placeIn log i) p) (chainOf (placeIn log j) e)
