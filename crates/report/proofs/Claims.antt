@@ -1,19 +1,21 @@
--- The claims of specs/Claims: a log that reads is a run, and its final chains agree.
+-- The claims of specs/Claims: a log without a fault is a run that it reads as, and its final chains agree.
 use Prim.Native.Nat.{ℕ}
-use mathlib.Core.Path.{_≡_, refl, ap}
+use mathlib.Core.Path.{_≡_, refl, ap, _∙_}
 use mathlib.Core.Bool.{Bool, true, false}
 use mathlib.Core.List.{List}
 use borrow.Author.Tests.{eqb-true}
 use lib.Dec.{eqb}
 use Rattle.words.specs.Tests.{choose}
 use Rattle.register.specs.declared.table.Register.{Register}
+use Rattle.register.specs.Opening.{opening}
 use Rattle.register.specs.Runs.{opened, moment}
 use Rattle.agreement.specs.Claim.{Agreement}
 use Rattle.agreement.proofs.Agreement.{agreement}
 use Rattle.packed_log.specs.Openings.{openingIn}
 use Rattle.packed_log.proofs.OpeningsReadBack.{opening-opens}
 use Rattle.report.specs.Reports.{runLines, bodyOf, faultOf, reportOf}
-use Rattle.report.specs.Claims.{RunOf, LogsAreRuns, placeIn, LogsAgree}
+use Rattle.report.proofs.BodyLaws.{reads-body, body-reads}
+use Rattle.report.specs.Claims.{caseOf, RunOf, LogsAreRuns, ReadsHaveNoFault, placeIn, LogsAgree}
 
 -- where neither the opening nor what stands behind it is refused, the opening is not
 none-first : (opening body : ℕ) → choose (eqb opening 0) body opening ≡ 0 → opening ≡ 0
@@ -25,15 +27,22 @@ none-first opening body = by (eqb opening 0) refl
     by false h none = none
 
 pub logs-are-runs : LogsAreRuns
-unfolding LogsAreRuns faultOf reportOf opened choose
-logs-are-runs log reads =
-    let opens = opening-opens log (none-first (openingIn log .refusal) (bodyOf log .refusal) reads) in
+unfolding LogsAreRuns caseOf faultOf reportOf bodyOf opened opening choose
+logs-are-runs log none =
+    let accepted : openingIn log .refusal ≡ 0 = none-first (openingIn log .refusal) (bodyOf log .refusal) none in
+    let whole : bodyOf log .refusal ≡ 0 = rw accepted at none in
+    let opens = opening-opens log accepted in
     record {
       run = record { n = _; trust = _; schedule = _; accepted = opens .0; steps = bodyOf log .steps };
+      reads = record { opens = accepted; register = opens .1 ∙ rw (opens .0); steps = body-reads log (openingIn log .next) whole };
       opens = opens .1;
       steps = refl;
-      reported = rw reads (ap (λ (r : Register). runLines r 1 (bodyOf log .steps)) (opens .1));
+      reported = rw none (ap (λ (r : Register). runLines r 1 (bodyOf log .steps)) (opens .1));
     }
+
+pub reads-have-no-fault : ReadsHaveNoFault
+unfolding ReadsHaveNoFault faultOf bodyOf choose
+reads-have-no-fault log c h = rw (h .opens, reads-body log (openingIn log .next) (c .steps) (h .steps))
 
 -- the places of a log are the moments of the run that it holds
 place-moment : (log : List ℕ) (held : RunOf log) (i : ℕ) → placeIn log i ≡ moment (held .run) i

@@ -1,4 +1,4 @@
--- What is claimed of logs: one that reads is a run, and its final chains agree.
+-- What is claimed of logs: one has no fault exactly when it reads as an opening with steps; then it is a run, and its final chains agree.
 use Prim.Native.Nat.{ℕ, _≤_}
 use mathlib.Core.Path.{_≡_}
 use mathlib.Core.List.{List}
@@ -9,18 +9,28 @@ use Rattle.register.specs.declared.table.Register.{Register}
 use Rattle.register.specs.Runs.{afterSteps, Run, opened}
 use Rattle.agreement.specs.Claim.{chainOf, finalChain, Trusted, Notarised, Begins}
 use Rattle.packed_log.specs.Openings.{openingIn}
+use Rattle.packed_log.specs.Logs.{Case, Reads}
 use Rattle.report.specs.Reports.{runLines, bodyOf, faultOf, reportOf}
 
--- a run that the log holds: its opening is the log's, its steps are those of the log, and the report is that of these
+-- the opening with steps that a run is made of
+unfoldable pub caseOf : Run → Case
+caseOf run = record { n = run .n; trust = run .trust; schedule = run .schedule; steps = run .steps }
+
+-- a run that the log reads as, and whose steps the report is about
 pub record RunOf (log : List ℕ) : Type 0 where
   pub run : Run
+  pub reads : Reads log (caseOf run)
   pub opens : openingIn log .register ≡ opened run
   pub steps : bodyOf log .steps ≡ run .steps
   pub reported : reportOf log ≡ runLines (opened run) 1 (run .steps)
 
--- Every log that reads holds a run.
+-- A log without a fault reads as a run.
 unfoldable pub LogsAreRuns : Type 0
 LogsAreRuns = (log : List ℕ) → faultOf log ≡ 0 → RunOf log
+
+-- A log that reads as an opening with steps has no fault.
+unfoldable pub ReadsHaveNoFault : Type 0
+ReadsHaveNoFault = (log : List ℕ) (c : Case) → Reads log c → faultOf log ≡ 0
 
 -- the register at a place of a log: after its opening and its first i steps
 unfoldable pub placeIn : (log : List ℕ) → (i : ℕ) → Register
