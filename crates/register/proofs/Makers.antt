@@ -35,11 +35,13 @@ ranges-after r [] z = z
 ranges-after r (step ∷ later) z =
     ranges-after (stepRule r step .register) later (subst⁻¹ Ranges (step-book r step) (ranges-step (bookOf r) step z))
 
+-- after an opening that is not refused and any steps the register is fit
 pub runs-are-fit : RunsAreFit
 unfolding RunsAreFit moment opened
 runs-are-fit run i =
     ranges-fit (ranges-after _ (take i (run .steps)) (ranges-opening (run .n) (run .trust) (run .schedule) (run .accepted)))
 
+-- a refused opening gives the closed register
 pub refused-opening-closes : RefusedOpeningCloses
 unfolding RefusedOpeningCloses opening choose
 refused-opening-closes n trust schedule refused = rw (ne-eqb _ 0 refused)
@@ -50,6 +52,7 @@ refused-by : (r : Register) (step : Step) → (bookRule (bookOf r) step .refusal
 unfolding stepRule bookRule judged choose
 refused-by r step some = rw (ne-eqb _ 0 some, register-book)
 
+-- a refused step gives the register back as it was, with value 0
 pub refused-step-stays : RefusedStepStays
 unfolding RefusedStepStays stepRule
 refused-step-stays r step some =
@@ -66,6 +69,7 @@ closed-five : (step : Step) → bookRule (bookOf closed) step .refusal ≡ 5
 unfolding bookRule judged refusal first choose
 closed-five step = rw closed-unfit
 
+-- on the closed register every step gets 5, and leaves it closed
 pub closed-gets-five : ClosedGetsFive
 unfolding ClosedGetsFive
 closed-gets-five step =
@@ -84,6 +88,7 @@ council-stays r (steps.BadSend sender kind signer about) = unfold badSend in ref
 council-stays r (steps.Draft parent epoch w) = unfold draft in named-keeps r _ councilOf refl
 council-stays r steps.Advance = unfold advance in refl
 
+-- no step changes the number of offices, who is trusted, or the schedule
 pub steps-keep-council : StepsKeepCouncil
 unfolding StepsKeepCouncil bookRule
 steps-keep-council r step =

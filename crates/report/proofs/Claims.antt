@@ -26,6 +26,7 @@ none-first opening body = by (eqb opening 0) refl
     by true h none = eqb-true opening 0 h
     by false h none = none
 
+-- a log without a fault reads as a run, and the report is that of its steps
 pub logs-are-runs : LogsAreRuns
 unfolding LogsAreRuns caseOf faultOf reportOf bodyOf opened opening choose
 logs-are-runs log none =
@@ -40,6 +41,7 @@ logs-are-runs log none =
       reported = rw none (ap (λ (r : Register). runLines r 1 (bodyOf log .steps)) (opens .1));
     }
 
+-- a log that reads as an opening with steps has no fault
 pub reads-have-no-fault : ReadsHaveNoFault
 unfolding ReadsHaveNoFault faultOf bodyOf choose
 reads-have-no-fault log c h = rw (h .opens, reads-body log (openingIn log .next) (c .steps) (h .steps))
@@ -49,6 +51,7 @@ place-moment : (log : List ℕ) (held : RunOf log) (i : ℕ) → placeIn log i �
 unfolding placeIn moment
 place-moment log held i = rw (held .opens, held .steps)
 
+-- final chains agree at every place of every log that reads
 pub logs-agree : LogsAgree
 unfolding LogsAgree LogsAreRuns Agreement
 logs-agree log reads i j p q e =
