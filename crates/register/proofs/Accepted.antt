@@ -9,14 +9,7 @@ use Rattle.words.specs.Refusals.{first}
 use Rattle.words.proofs.Tests.{both-left, both-false, either-false-left, either-false-right}
 use Rattle.words.proofs.Clearing.{clear}
 use Rattle.tables.specs.Blocks.{trustedIn}
-use Rattle.register.specs.declared.sorts.Office.{Office}
-use Rattle.register.specs.declared.sorts.Block.{Block}
-use Rattle.register.specs.declared.sorts.Message.{Message}
-use Rattle.register.specs.declared.sorts.Kind.{Kind}
-use Rattle.register.specs.declared.step.Step.{Step}
-use Rattle.register.specs.declared.step.Step.the-variants as steps
-use Rattle.register.specs.declared.table.Header.{Header}
-use Rattle.register.specs.declared.book.Book.{Book}
+use Rattle.register.specs.Types.{Office, Block, Message, Kind, Step, Header, Book}
 use Rattle.register.specs.Tables.{trusted, acted, parentOf, epochOf, aboutOf}
 use Rattle.register.specs.Chains.{longest}
 use Rattle.register.specs.Refusals.{notInHand, inHistory, blocksFull}
@@ -71,18 +64,18 @@ pub record Drafts (r : Book) (new : Header) : Type 0 where
 
 -- what is known of any accepted step
 abbrev pub Accepted : Book → Step → Type 0
-Accepted r (steps.Propose office parent w) = Proposes r (office .0) (record { parent = parent; epoch = r .epoch; payload = w })
-Accepted r (steps.Vote office message) = Votes r (office .0) (message .0) (aboutOf r (message .0))
-Accepted r (steps.Register office message) = Placed r (office .0) (message .0) 2
-Accepted r (steps.Finalise office newest) = Finalises r (office .0) (newest .0)
-Accepted r (steps.Deliver message office) = Placed r (office .0) (message .0) 1
-Accepted r (steps.BadSend sender kind signer about) = BadSends r kind (signer .0) (about .0)
-Accepted r (steps.Draft parent epoch w) = Drafts r (record { parent = parent; epoch = epoch; payload = w })
-Accepted r steps.Advance = r .epoch .0 < r .length
+Accepted r (Step.Propose office parent w) = Proposes r (office .0) (record { parent = parent; epoch = r .epoch; payload = w })
+Accepted r (Step.Vote office message) = Votes r (office .0) (message .0) (aboutOf r (message .0))
+Accepted r (Step.Register office message) = Placed r (office .0) (message .0) 2
+Accepted r (Step.Finalise office newest) = Finalises r (office .0) (newest .0)
+Accepted r (Step.Deliver message office) = Placed r (office .0) (message .0) 1
+Accepted r (Step.BadSend sender kind signer about) = BadSends r kind (signer .0) (about .0)
+Accepted r (Step.Draft parent epoch w) = Drafts r (record { parent = parent; epoch = epoch; payload = w })
+Accepted r Step.Advance = r .epoch .0 < r .length
 
 module _ (r : Book) where
   proposes : (office : Office) (parent : Block) (w : ℕ) → first (propose r office parent w .tests) ≡ 0
-      → Accepted r (steps.Propose office parent w)
+      → Accepted r (Step.Propose office parent w)
   unfolding propose
   proposes office parent w h =
       let fails = clear (propose r office parent w .tests) h in
@@ -99,7 +92,7 @@ module _ (r : Book) where
         blocks = fails .1 .1 .1 .1 .1 .1 .1 .0;
       }
 
-  votes : (office : Office) (message : Message) → first (vote r office message .tests) ≡ 0 → Accepted r (steps.Vote office message)
+  votes : (office : Office) (message : Message) → first (vote r office message .tests) ≡ 0 → Accepted r (Step.Vote office message)
   unfolding vote
   votes office message h =
       let fails = clear (vote r office message .tests) h in
@@ -116,7 +109,7 @@ module _ (r : Book) where
             };
       }
 
-  finalised : (office : Office) (newest : Block) → first (finalise r office newest .tests) ≡ 0 → Accepted r (steps.Finalise office newest)
+  finalised : (office : Office) (newest : Block) → first (finalise r office newest .tests) ≡ 0 → Accepted r (Step.Finalise office newest)
   unfolding finalise
   finalised office newest h =
       let fails = clear (finalise r office newest .tests) h in
@@ -127,7 +120,7 @@ module _ (r : Book) where
       }
 
   bad-sends : (sender : Office) (kind : Kind) (signer : Office) (about : Block) → first (badSend r sender kind signer about .tests) ≡ 0
-      → Accepted r (steps.BadSend sender kind signer about)
+      → Accepted r (Step.BadSend sender kind signer about)
   unfolding badSend
   bad-sends sender kind signer about h =
       let fails = clear (badSend r sender kind signer about .tests) h in
@@ -143,14 +136,14 @@ module _ (r : Book) where
   -- a step of which no test holds
   pub accepted : (step : Step) → first (ruleOf r step .tests) ≡ 0 → Accepted r step
   unfolding ruleOf register deliver draft advance
-  accepted (steps.Propose office parent w) h = proposes office parent w h
-  accepted (steps.Vote office message) h = votes office message h
-  accepted (steps.Register office message) h = in-hand r (office .0) (message .0) (clear (register r office message .tests) h .1 .1 .1 .0)
-  accepted (steps.Finalise office newest) h = finalised office newest h
-  accepted (steps.Deliver message office) h =
+  accepted (Step.Propose office parent w) h = proposes office parent w h
+  accepted (Step.Vote office message) h = votes office message h
+  accepted (Step.Register office message) h = in-hand r (office .0) (message .0) (clear (register r office message .tests) h .1 .1 .1 .0)
+  accepted (Step.Finalise office newest) h = finalised office newest h
+  accepted (Step.Deliver message office) h =
       placed r (office .0) (message .0) 0 (eqb-true _ 1 (not-false _ (clear (deliver r message office .tests) h .1 .1 .0)))
-  accepted (steps.BadSend sender kind signer about) h = bad-sends sender kind signer about h
-  accepted (steps.Draft parent epoch w) h =
+  accepted (Step.BadSend sender kind signer about) h = bad-sends sender kind signer about h
+  accepted (Step.Draft parent epoch w) h =
       let fails = clear (draft r parent epoch w .tests) h in
       record { parent = ltb-false _ _ (fails .0); epoch = ltb-false _ _ (fails .1 .0); blocks = fails .1 .1 .0 }
-  accepted steps.Advance h = leb-false _ _ (clear (advance r .tests) h .0)
+  accepted Step.Advance h = leb-false _ _ (clear (advance r .tests) h .0)

@@ -14,9 +14,7 @@ use Rattle.words.proofs.Turns.{turns}
 use Rattle.tables.specs.Blocks.{namedIn}
 use Rattle.tables.specs.Searches.{signedIn, viewIn, certifiedAbove, longestIn}
 use Rattle.tables.proofs.Scans.{named-most}
-use Rattle.register.specs.declared.step.Step.{Step}
-use Rattle.register.specs.declared.change.Change.{Change}
-use Rattle.register.specs.declared.book.Book.{Book}
+use Rattle.register.specs.Types.{Step, Book, Change}
 use Rattle.register.specs.Tables.{trusted}
 use Rattle.register.specs.Views.{stage, signed, signers, notarised}
 use Rattle.register.specs.Chains.{chain, chainNotarised, longer, longest}

@@ -7,17 +7,7 @@ use borrow.Author.Tests.{eqb-true}
 use lib.Dec.{eqb, leb}
 use Rattle.words.specs.Tests.{choose}
 use Rattle.words.specs.Refusals.{first}
-use Rattle.register.specs.declared.sorts.Office.{Office}
-use Rattle.register.specs.declared.sorts.Epoch.{Epoch}
-use Rattle.register.specs.declared.sorts.Block.{Block}
-use Rattle.register.specs.declared.sorts.Message.{Message}
-use Rattle.register.specs.declared.sorts.Kind.{Kind}
-use Rattle.register.specs.declared.step.Step.{Step}
-use Rattle.register.specs.declared.step.Step.the-variants as steps
-use Rattle.register.specs.declared.table.Header.{Header}
-use Rattle.register.specs.declared.table.OfficeState.{OfficeState}
-use Rattle.register.specs.declared.change.Change.{Change}
-use Rattle.register.specs.declared.book.Book.{Book}
+use Rattle.register.specs.Types.{Office, Epoch, Block, Message, Kind, Step, Header, OfficeState, Book, Change}
 use Rattle.register.specs.Books.{epoch, block}
 use Rattle.register.specs.Tables.{stateOf, parentOf, named, aboutOf}
 use Rattle.register.specs.Refusals.{blocksFull}
@@ -83,23 +73,23 @@ module _ (r : Book) (at : ℕ) (state : OfficeState) (holds : stateOf r at ≡ s
     moves m q stage sent = record { block = omega arith; message = omega arith; place = omega (arith, c .messages); office = within }
 
     pub carries-register : (office : Office) (message : Message)
-        → CarriesOut true r (steps.Register office message) (registerChange (unchangedOf r at state) r office message)
+        → CarriesOut true r (Step.Register office message) (registerChange (unchangedOf r at state) r office message)
     unfolding registerChange ruleOf register
     carries-register office message =
-        decides (steps.Register office message) _
+        decides (Step.Register office message) _
         (λ a. (writes-moved r at state holds (message .0) (office .0) 3, moves (message .0) (office .0) 3 (a .sent)))
 
     pub carries-deliver : (message : Message) (office : Office)
-        → CarriesOut true r (steps.Deliver message office) (deliverChange (unchangedOf r at state) r message office)
+        → CarriesOut true r (Step.Deliver message office) (deliverChange (unchangedOf r at state) r message office)
     unfolding deliverChange ruleOf deliver
     carries-deliver message office =
-        decides (steps.Deliver message office) _
+        decides (Step.Deliver message office) _
         (λ a. (writes-moved r at state holds (message .0) (office .0) 2, moves (message .0) (office .0) 2 (a .sent)))
 
-    pub carries-advance : CarriesOut true r steps.Advance (advanceChange (unchangedOf r at state) r)
+    pub carries-advance : CarriesOut true r Step.Advance (advanceChange (unchangedOf r at state) r)
     unfolding advanceChange ruleOf advance unchangedOf
     carries-advance =
-        decides steps.Advance _
+        decides Step.Advance _
         (λ a. (
           writes-epoch r at state holds,
           record { block = omega arith; message = omega arith; place = omega arith; office = within },
@@ -107,10 +97,10 @@ module _ (r : Book) (at : ℕ) (state : OfficeState) (holds : stateOf r at ≡ s
 
     -- the office that finalises is the acting one
     pub carries-finalise : (office : Office) (newest : Block) → (office .0 < 32 → at ≡ office .0)
-        → CarriesOut true r (steps.Finalise office newest) (finaliseChange (unchangedOf r at state) r office newest)
+        → CarriesOut true r (Step.Finalise office newest) (finaliseChange (unchangedOf r at state) r office newest)
     unfolding finaliseChange ruleOf finalise unchangedOf
     carries-finalise office newest own =
-        decides (steps.Finalise office newest) _
+        decides (Step.Finalise office newest) _
         (λ a.
         let is : at ≡ office .0 = own (omega (arith, trusted-below r (office .0) (a .trusted), c .offices)) in (
           writes-state r at state holds (finalising state (parentOf r (newest .0))) ∙ ap (λ (q : ℕ). withState r q (finalising (stateOf r q) (parentOf r (newest .0)))) is,
@@ -118,20 +108,20 @@ module _ (r : Book) (at : ℕ) (state : OfficeState) (holds : stateOf r at ≡ s
         ))
 
     pub carries-bad-send : (sender : Office) (kind : Kind) (signer : Office) (about : Block)
-        → CarriesOut true r (steps.BadSend sender kind signer about) (badSendChange (unchangedOf r at state) r sender kind signer about)
+        → CarriesOut true r (Step.BadSend sender kind signer about) (badSendChange (unchangedOf r at state) r sender kind signer about)
     unfolding badSendChange ruleOf badSend unchangedOf
     carries-bad-send sender kind signer about =
-        decides (steps.BadSend sender kind signer about) _
+        decides (Step.BadSend sender kind signer about) _
         (λ a. (
           writes-sent r at state holds (sender .0) (record { kind = kind; signer = signer; about = about }),
           record { block = omega arith; message = a .room; place = a .room; office = within },
         ))
 
     pub carries-vote : (office : Office) (message : Message)
-        → CarriesOut true r (steps.Vote office message) (voteChange (unchangedOf r at state) r office message)
+        → CarriesOut true r (Step.Vote office message) (voteChange (unchangedOf r at state) r office message)
     unfolding voteChange ruleOf vote unchangedOf
     carries-vote office message =
-        decides (steps.Vote office message) _
+        decides (Step.Vote office message) _
         (λ a. (
           writes-vote r at state holds (message .0) (aboutOf r (message .0)) office (λ e. omega (arith, a .message .sent)),
           record { block = omega arith; message = a .signs .room; place = omega (arith, a .message .sent, c .messages); office = within },
@@ -147,22 +137,22 @@ module _ (r : Book) (at : ℕ) (state : OfficeState) (holds : stateOf r at ≡ s
         by false = unfold choose in omega (arith, named-room r new (c .blocks) full)
 
     pub carries-draft : (parent : Block) (epoch : Epoch) (w : ℕ)
-        → CarriesOut true r (steps.Draft parent epoch w) (draftChange (unchangedOf r at state) r parent epoch w)
+        → CarriesOut true r (Step.Draft parent epoch w) (draftChange (unchangedOf r at state) r parent epoch w)
     unfolding draftChange ruleOf draft naming unchangedOf
     carries-draft parent epoch w =
         let new : Header = record { parent = parent; epoch = epoch; payload = w } in
-        decides (steps.Draft parent epoch w) _
+        decides (Step.Draft parent epoch w) _
         (λ a. (
           writes-named r at state holds new,
           record { block = named-entry new (a .blocks); message = omega arith; place = omega arith; office = within },
         ))
 
     pub carries-propose : (office : Office) (parent : Block) (w : ℕ)
-        → CarriesOut true r (steps.Propose office parent w) (proposeChange (unchangedOf r at state) r office parent w)
+        → CarriesOut true r (Step.Propose office parent w) (proposeChange (unchangedOf r at state) r office parent w)
     unfolding proposeChange ruleOf propose naming unchangedOf
     carries-propose office parent w =
         let new : Header = record { parent = parent; epoch = r .epoch; payload = w } in
-        decides (steps.Propose office parent w) _
+        decides (Step.Propose office parent w) _
         (λ a. (
           writes-propose r at state holds new office,
           record { block = named-entry new (a .blocks); message = a .signs .room; place = a .signs .room; office = within },

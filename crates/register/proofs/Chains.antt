@@ -13,7 +13,7 @@ use Rattle.words.specs.Tests.{choose, both, every, member}
 use Rattle.words.proofs.Tests.{both-left, both-right, both-make, either-cases, either-left, either-right, clash, every-at}
 use Rattle.tables.specs.Blocks.{madeIn, parentIn}
 use Rattle.tables.proofs.Chains.{Down, parent-in-lt, chain-by-genesis, chain-by-step, climb-induction}
-use Rattle.register.specs.declared.book.Book.{Book}
+use Rattle.register.specs.Types.{Book}
 use Rattle.register.specs.Tables.{parentOf, epochOf}
 use Rattle.register.specs.Views.{notarised}
 use Rattle.register.specs.Chains.{chain, chainLength, chainNotarised}

@@ -8,7 +8,7 @@ use borrow.Author.Tests.{eqb-true, eqb-false, not-true, not-false}
 use lib.Dec.{eqb}
 use Rattle.words.specs.Tests.{both, conj}
 use Rattle.words.proofs.Clearing.{holds}
-use Rattle.register.specs.declared.book.Book.{Book}
+use Rattle.register.specs.Types.{Book}
 use Rattle.register.specs.Tables.{parentOf, epochOf}
 use Rattle.register.specs.Chains.{chainNotarised}
 use Rattle.register.specs.Refusals.{finalises}

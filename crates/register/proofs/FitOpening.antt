@@ -10,7 +10,7 @@ use Rattle.quorum.specs.Opening.{stray, openingTests, openingRefusal}
 use Rattle.words.specs.Tests.{choose}
 use Rattle.words.proofs.Tests.{any-none, between-true}
 use Rattle.words.proofs.Clearing.{clear}
-use Rattle.register.specs.declared.table.OfficeState.{OfficeState}
+use Rattle.register.specs.Types.{OfficeState}
 use Rattle.register.specs.Books.{block, bookOf}
 use Rattle.register.specs.Opening.{leaderTable, blank, closed, freshBook, fresh, opening}
 use Rattle.register.specs.Promises.{OpeningsAreFit}

@@ -8,16 +8,7 @@ use lib.ListN.{length, getD, set, length-set}
 use Rattle.words.specs.Tests.{choose}
 use Rattle.words.specs.Digits.{withMember}
 use Rattle.words.specs.Refusals.{first}
-use Rattle.register.specs.declared.sorts.Office.{Office}
-use Rattle.register.specs.declared.sorts.Epoch.{Epoch}
-use Rattle.register.specs.declared.sorts.Block.{Block}
-use Rattle.register.specs.declared.sorts.Message.{Message}
-use Rattle.register.specs.declared.step.Step.{Step}
-use Rattle.register.specs.declared.step.Step.the-variants as steps
-use Rattle.register.specs.declared.table.Header.{Header}
-use Rattle.register.specs.declared.table.OfficeState.{OfficeState}
-use Rattle.register.specs.declared.table.Register.{Register}
-use Rattle.register.specs.declared.book.Book.{Book}
+use Rattle.register.specs.Types.{Office, Epoch, Block, Message, Step, Header, OfficeState, Register, Book}
 use Rattle.register.specs.Books.{block, epoch, blocksOf, changed, bookOf}
 use Rattle.register.specs.Tables.{Content, trusted}
 use Rattle.register.specs.Fitness.{fit}
@@ -174,7 +165,7 @@ module _ {r : Book} (z : Ranges r) where
   ranges-named new low small full = named-has r new Ranges z (λ next. ranges-block new low small (block-room r new full next))
 
 -- propose: the parent is there, the epoch is one of the schedule's, and the signer is an office
-ranges-propose : (r : Book) (office : Office) (parent : Block) (w : ℕ) → Ranges r → Accepted r (steps.Propose office parent w)
+ranges-propose : (r : Book) (office : Office) (parent : Block) (w : ℕ) → Ranges r → Accepted r (Step.Propose office parent w)
     → Ranges (propose r office parent w .effect)
 unfolding propose withBlock
 ranges-propose r office parent w z a =
@@ -187,7 +178,7 @@ ranges-propose r office parent w z a =
     (office .0)
 
 -- vote: the block is that of a message sent
-ranges-vote : (r : Book) (office : Office) (message : Message) → Ranges r → Accepted r (steps.Vote office message)
+ranges-vote : (r : Book) (office : Office) (message : Message) → Ranges r → Accepted r (Step.Vote office message)
     → Ranges (vote r office message .effect)
 unfolding vote withMoved
 ranges-vote r office message z a =
@@ -199,15 +190,15 @@ ranges-vote r office message z a =
 -- every accepted step
 ranges-accepted : (r : Book) (step : Step) → Ranges r → Accepted r step → Ranges (ruleOf r step .effect)
 unfolding ruleOf register finalise deliver badSend draft advance
-ranges-accepted r (steps.Propose office parent w) z a = ranges-propose r office parent w z a
-ranges-accepted r (steps.Vote office message) z a = ranges-vote r office message z a
-ranges-accepted r (steps.Register office message) z a = ranges-moved z (message .0) (office .0) 3
-ranges-accepted r (steps.Finalise office newest) z a =
+ranges-accepted r (Step.Propose office parent w) z a = ranges-propose r office parent w z a
+ranges-accepted r (Step.Vote office message) z a = ranges-vote r office message z a
+ranges-accepted r (Step.Register office message) z a = ranges-moved z (message .0) (office .0) 3
+ranges-accepted r (Step.Finalise office newest) z a =
     ranges-state z (office .0) _ (omega (arith, parent-le r (newest .0), a .block))
-ranges-accepted r (steps.Deliver message office) z a = ranges-moved z (message .0) (office .0) 2
-ranges-accepted r (steps.BadSend sender kind signer about) z a = ranges-sent z (sender .0) _ (a .room) (a .office) (a .above, a .made)
-ranges-accepted r (steps.Draft parent epoch w) z a = ranges-named z _ (a .parent) (a .epoch) (a .blocks)
-ranges-accepted r steps.Advance z a = ranges-epoch z a
+ranges-accepted r (Step.Deliver message office) z a = ranges-moved z (message .0) (office .0) 2
+ranges-accepted r (Step.BadSend sender kind signer about) z a = ranges-sent z (sender .0) _ (a .room) (a .office) (a .above, a .made)
+ranges-accepted r (Step.Draft parent epoch w) z a = ranges-named z _ (a .parent) (a .epoch) (a .blocks)
+ranges-accepted r Step.Advance z a = ranges-epoch z a
 
 -- every step, accepted or refused
 pub ranges-step : (r : Book) (step : Step) → Ranges r → Ranges (bookRule r step .book)

@@ -11,12 +11,7 @@ use lib.Seq.{getD-set-same, getD-set-other}
 use Rattle.words.specs.Tests.{choose}
 use Rattle.words.specs.Digits.{digit, withMember, withStage}
 use Rattle.words.proofs.Digits.{stage-put}
-use Rattle.register.specs.declared.sorts.Epoch.{Epoch}
-use Rattle.register.specs.declared.step.Step.{Step}
-use Rattle.register.specs.declared.step.Step.the-variants as steps
-use Rattle.register.specs.declared.table.Header.{Header}
-use Rattle.register.specs.declared.table.OfficeState.{OfficeState}
-use Rattle.register.specs.declared.book.Book.{Book}
+use Rattle.register.specs.Types.{Epoch, Step, Header, OfficeState, Book}
 use Rattle.register.specs.Books.{epoch, blocksOf, messagesOf, changed}
 use Rattle.register.specs.Tables.{Content, trusted}
 use Rattle.register.specs.Views.{inView, stage}
@@ -143,14 +138,14 @@ grows-moved r m q k s few low here =
 -- every accepted step
 pub grows-step : (r : Book) (step : Step) → r .n ≤ 32 → Accepted r step → Grows r (ruleOf r step .effect)
 unfolding ruleOf propose vote register finalise deliver badSend draft advance
-grows-step r (steps.Propose office parent w) few a =
+grows-step r (Step.Propose office parent w) few a =
     grows-trans (grows-named r _) (grows-trans (grows-sent _ (office .0) _) (grows-acted _ (office .0)))
-grows-step r (steps.Vote office message) few a =
+grows-step r (Step.Vote office message) few a =
     grows-trans (grows-moved r (message .0) (office .0) 1 3 few (omega arith) (a .message))
     (grows-trans (grows-sent _ (office .0) _) (grows-acted _ (office .0)))
-grows-step r (steps.Register office message) few a = grows-moved r (message .0) (office .0) 1 3 few (omega arith) a
-grows-step r (steps.Finalise office newest) few a = grows-state r (office .0) _
-grows-step r (steps.Deliver message office) few a = grows-moved r (message .0) (office .0) 0 2 few (omega arith) a
-grows-step r (steps.BadSend sender kind signer about) few a = grows-sent r (sender .0) _
-grows-step r (steps.Draft parent epoch w) few a = grows-named r _
-grows-step r steps.Advance few a = grows-epoch r
+grows-step r (Step.Register office message) few a = grows-moved r (message .0) (office .0) 1 3 few (omega arith) a
+grows-step r (Step.Finalise office newest) few a = grows-state r (office .0) _
+grows-step r (Step.Deliver message office) few a = grows-moved r (message .0) (office .0) 0 2 few (omega arith) a
+grows-step r (Step.BadSend sender kind signer about) few a = grows-sent r (sender .0) _
+grows-step r (Step.Draft parent epoch w) few a = grows-named r _
+grows-step r Step.Advance few a = grows-epoch r

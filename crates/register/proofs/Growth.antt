@@ -15,8 +15,7 @@ use Rattle.words.proofs.Tests.{both-left, both-right, both-make, either-cases, 
 use Rattle.words.proofs.Sums.{weigh-more}
 use Rattle.tables.specs.Blocks.{trustedIn, madeIn, parentIn, epochIn}
 use Rattle.tables.specs.Messages.{saysIn}
-use Rattle.register.specs.declared.table.Header.{Header}
-use Rattle.register.specs.declared.book.Book.{Book}
+use Rattle.register.specs.Types.{Header, Book}
 use Rattle.register.specs.Tables.{Content, trusted, made, headerOf, parentOf, epochOf, contentOf}
 use Rattle.register.specs.Views.{inView, says, signed, notarised}
 use Rattle.register.specs.Chains.{chain, chainLength, chainNotarised}

@@ -6,8 +6,7 @@ use borrow.Author.Tests.{eqb-true}
 use lib.Dec.{eqb}
 use Rattle.words.specs.Tests.{choose}
 use Rattle.words.specs.Refusals.{first}
-use Rattle.register.specs.declared.step.Step.{Step}
-use Rattle.register.specs.declared.book.Book.{Book}
+use Rattle.register.specs.Types.{Step, Book}
 use Rattle.register.specs.Steps.{Rule, refusal, judged, ruleOf}
 use Rattle.register.proofs.Accepted.{Accepted, accepted}
 

@@ -5,17 +5,7 @@ use mathlib.Core.Path.{_≡_, ap, _∙_, subst⁻¹}
 use mathlib.Core.Bool.{Bool, true, false, not}
 use mathlib.Core.List.{List, []}
 use borrow.Author.Tests.{not-true, not-false}
-use Rattle.register.specs.declared.sorts.Office.{Office}
-use Rattle.register.specs.declared.sorts.Epoch.{Epoch}
-use Rattle.register.specs.declared.sorts.Block.{Block}
-use Rattle.register.specs.declared.sorts.Message.{Message}
-use Rattle.register.specs.declared.sorts.Kind.{Kind}
-use Rattle.register.specs.declared.step.Step.{Step}
-use Rattle.register.specs.declared.step.Step.the-variants as steps
-use Rattle.register.specs.declared.table.OfficeState.{OfficeState}
-use Rattle.register.specs.declared.change.Scalars.{Scalars}
-use Rattle.register.specs.declared.change.Change.{Change}
-use Rattle.register.specs.declared.book.Book.{Book}
+use Rattle.register.specs.Types.{Office, Epoch, Block, Message, Kind, Step, OfficeState, Book, Scalars, Change}
 use Rattle.register.specs.Tables.{stateIn}
 use Rattle.register.specs.Views.{stage, signed, notarised}
 use Rattle.register.specs.Chains.{chain, chainNotarised, longest}
@@ -70,17 +60,17 @@ module _ (l : Lent) (offices : List OfficeState) (at : ℕ) (state : OfficeState
         (subst⁻¹ (λ (s : Step). CarriesOut true (given l offices) s c) named
         (subst⁻¹ (CarriesOut true (given l offices) kind) (is ∙ ap change unchanged) carries))
 
-    pub judged-vote : (office : Office) (message : Message) → step ≡ steps.Vote office message
+    pub judged-vote : (office : Office) (message : Message) → step ≡ Step.Vote office message
         → c
         ≡ voteChange same
         (lentBook (l .scalars) (l .leaders) (blocks (l .blocks .parents) (l .blocks .epochs) []) (l .messages)) office message
         → CarriesOut fits (given l offices) step c
     unfolding voteChange decided vote longest chainNotarised notarised signed stage chain sentStage
     judged-vote office message named is =
-        comes-to (steps.Vote office message) (λ x. voteChange x (given l offices) office message) named is
+        comes-to (Step.Vote office message) (λ x. voteChange x (given l offices) office message) named is
         (carries-vote (given l offices) at state holds within counted office message)
 
-    pub judged-propose : (office : Office) (parent : Block) (w : ℕ) → step ≡ steps.Propose office parent w
+    pub judged-propose : (office : Office) (parent : Block) (w : ℕ) → step ≡ Step.Propose office parent w
         → c
         ≡ proposeChange same
         (lentBook (l .scalars) (l .leaders) (l .blocks)
@@ -88,35 +78,35 @@ module _ (l : Lent) (offices : List OfficeState) (at : ℕ) (state : OfficeState
         → CarriesOut fits (given l offices) step c
     unfolding proposeChange decided propose longest chainNotarised notarised signed stage chain sentStage
     judged-propose office parent w named is =
-        comes-to (steps.Propose office parent w) (λ x. proposeChange x (given l offices) office parent w) named is
+        comes-to (Step.Propose office parent w) (λ x. proposeChange x (given l offices) office parent w) named is
         (carries-propose (given l offices) at state holds within counted office parent w)
 
-    pub judged-register : (office : Office) (message : Message) → step ≡ steps.Register office message
+    pub judged-register : (office : Office) (message : Message) → step ≡ Step.Register office message
         → c ≡ registerChange same (lentBook (l .scalars) [] noBlocks (l .messages)) office message
         → CarriesOut fits (given l offices) step c
     unfolding registerChange decided register signed stage
     judged-register office message named is =
-        comes-to (steps.Register office message) (λ x. registerChange x (given l offices) office message) named is
+        comes-to (Step.Register office message) (λ x. registerChange x (given l offices) office message) named is
         (carries-register (given l offices) at state holds within counted office message)
 
     -- the office that finalises is the acting one
-    pub judged-finalise : (office : Office) (newest : Block) → (office .0 < 32 → at ≡ office .0) → step ≡ steps.Finalise office newest
+    pub judged-finalise : (office : Office) (newest : Block) → (office .0 < 32 → at ≡ office .0) → step ≡ Step.Finalise office newest
         → c ≡ finaliseChange same (searched l []) office newest → CarriesOut fits (given l offices) step c
     unfolding finaliseChange decided finalise finalises chainNotarised notarised signed stage chain
     judged-finalise office newest own named is =
-        comes-to (steps.Finalise office newest) (λ x. finaliseChange x (given l offices) office newest) named is
+        comes-to (Step.Finalise office newest) (λ x. finaliseChange x (given l offices) office newest) named is
         (carries-finalise (given l offices) at state holds within counted office newest own)
 
-    pub judged-deliver : (message : Message) (office : Office) → step ≡ steps.Deliver message office
+    pub judged-deliver : (message : Message) (office : Office) → step ≡ Step.Deliver message office
         → c ≡ deliverChange same (lentBook (l .scalars) [] noBlocks (messages [] [] [] (l .messages .places))) message office
         → CarriesOut fits (given l offices) step c
     unfolding deliverChange decided deliver stage
     judged-deliver message office named is =
-        comes-to (steps.Deliver message office) (λ x. deliverChange x (given l offices) message office) named is
+        comes-to (Step.Deliver message office) (λ x. deliverChange x (given l offices) message office) named is
         (carries-deliver (given l offices) at state holds within counted message office)
 
     pub judged-bad-send : (sender : Office) (kind : Kind) (signer : Office) (about : Block)
-        → step ≡ steps.BadSend sender kind signer about
+        → step ≡ Step.BadSend sender kind signer about
         → c
         ≡ badSendChange same
         (lentBook (l .scalars) [] noBlocks (messages (l .messages .votes) (l .messages .signers) (l .messages .about) [])) sender kind signer
@@ -124,19 +114,19 @@ module _ (l : Lent) (offices : List OfficeState) (at : ℕ) (state : OfficeState
         → CarriesOut fits (given l offices) step c
     unfolding badSendChange decided badSend sentStage
     judged-bad-send sender kind signer about named is =
-        comes-to (steps.BadSend sender kind signer about) (λ x. badSendChange x (given l offices) sender kind signer about) named is
+        comes-to (Step.BadSend sender kind signer about) (λ x. badSendChange x (given l offices) sender kind signer about) named is
         (carries-bad-send (given l offices) at state holds within counted sender kind signer about)
 
-    pub judged-draft : (parent : Block) (epoch : Epoch) (w : ℕ) → step ≡ steps.Draft parent epoch w
+    pub judged-draft : (parent : Block) (epoch : Epoch) (w : ℕ) → step ≡ Step.Draft parent epoch w
         → c ≡ draftChange same (lentBook (l .scalars) [] (l .blocks) noMessages) parent epoch w → CarriesOut fits (given l offices) step c
     unfolding draftChange decided draft
     judged-draft parent epoch w named is =
-        comes-to (steps.Draft parent epoch w) (λ x. draftChange x (given l offices) parent epoch w) named is
+        comes-to (Step.Draft parent epoch w) (λ x. draftChange x (given l offices) parent epoch w) named is
         (carries-draft (given l offices) at state holds within counted parent epoch w)
 
-    pub judged-advance : step ≡ steps.Advance → c ≡ advanceChange same (lentBook (l .scalars) [] noBlocks noMessages)
+    pub judged-advance : step ≡ Step.Advance → c ≡ advanceChange same (lentBook (l .scalars) [] noBlocks noMessages)
         → CarriesOut fits (given l offices) step c
     unfolding advanceChange decided advance
     judged-advance named is =
-        comes-to steps.Advance (λ x. advanceChange x (given l offices)) named is
+        comes-to Step.Advance (λ x. advanceChange x (given l offices)) named is
         (carries-advance (given l offices) at state holds within counted)

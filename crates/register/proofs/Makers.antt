@@ -7,11 +7,7 @@ use borrow.Author.Tests.{ne-eqb}
 use lib.ListN.{take, replicate}
 use Rattle.words.specs.Tests.{choose, both, conj, between}
 use Rattle.words.specs.Refusals.{first}
-use Rattle.register.specs.declared.step.Step.{Step}
-use Rattle.register.specs.declared.step.Step.the-variants as steps
-use Rattle.register.specs.declared.table.Register.{Register}
-use Rattle.register.specs.declared.table.Stepped.{Stepped}
-use Rattle.register.specs.declared.book.Book.{Book}
+use Rattle.register.specs.Types.{Step, Register, Stepped, Book}
 use Rattle.register.specs.Books.{bookOf}
 use Rattle.register.specs.Fitness.{countsFit, fit}
 use Rattle.register.specs.Opening.{blank, closed, opening}
@@ -79,14 +75,14 @@ closed-gets-five step =
 -- no step's effect changes the council
 council-stays : (r : Book) (step : Step) → councilOf (ruleOf r step .effect) ≡ councilOf r
 unfolding councilOf ruleOf withActed withSent withMoved withState withBlock withNextEpoch
-council-stays r (steps.Propose office parent w) = unfold propose in named-keeps r _ councilOf refl
-council-stays r (steps.Vote office message) = unfold vote in refl
-council-stays r (steps.Register office message) = unfold register in refl
-council-stays r (steps.Finalise office newest) = unfold finalise in refl
-council-stays r (steps.Deliver message office) = unfold deliver in refl
-council-stays r (steps.BadSend sender kind signer about) = unfold badSend in refl
-council-stays r (steps.Draft parent epoch w) = unfold draft in named-keeps r _ councilOf refl
-council-stays r steps.Advance = unfold advance in refl
+council-stays r (Step.Propose office parent w) = unfold propose in named-keeps r _ councilOf refl
+council-stays r (Step.Vote office message) = unfold vote in refl
+council-stays r (Step.Register office message) = unfold register in refl
+council-stays r (Step.Finalise office newest) = unfold finalise in refl
+council-stays r (Step.Deliver message office) = unfold deliver in refl
+council-stays r (Step.BadSend sender kind signer about) = unfold badSend in refl
+council-stays r (Step.Draft parent epoch w) = unfold draft in named-keeps r _ councilOf refl
+council-stays r Step.Advance = unfold advance in refl
 
 -- no step changes the number of offices, who is trusted, or the schedule
 pub steps-keep-council : StepsKeepCouncil

@@ -10,8 +10,7 @@ use Rattle.words.specs.Tests.{choose, both, lowest}
 use Rattle.words.proofs.Tests.{both-left, both-right, both-make, both-false, decided, Lowest, lowest-is}
 use Rattle.tables.specs.Blocks.{madeIn, namedIn, matchesIn, parentIn, epochIn}
 use Rattle.tables.proofs.Scans.{named-most}
-use Rattle.register.specs.declared.table.Header.{Header}
-use Rattle.register.specs.declared.book.Book.{Book}
+use Rattle.register.specs.Types.{Header, Book}
 use Rattle.register.specs.Tables.{made, parentOf, epochOf, named}
 use Rattle.register.specs.Refusals.{blocksFull}
 use Rattle.register.specs.Effects.{withBlock, withNamed}

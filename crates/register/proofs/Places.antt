@@ -11,7 +11,7 @@ use Rattle.words.specs.Tests.{choose, both}
 use Rattle.words.specs.Digits.{digit}
 use Rattle.words.proofs.Tests.{both-left, both-right, both-make}
 use Rattle.words.proofs.Digits.{digit-zero}
-use Rattle.register.specs.declared.book.Book.{Book}
+use Rattle.register.specs.Types.{Book}
 use Rattle.register.specs.Tables.{trusted}
 use Rattle.register.specs.Views.{stage}
 

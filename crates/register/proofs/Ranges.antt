@@ -8,7 +8,7 @@ use lib.ListN.{getD}
 use Rattle.words.specs.Tests.{either}
 use Rattle.words.proofs.Tests.{clash, both-left, both-right, both-make, all-at, all-make, between-true, between-make}
 use Rattle.words.proofs.Clearing.{holds, hold}
-use Rattle.register.specs.declared.book.Book.{Book}
+use Rattle.register.specs.Types.{Book}
 use Rattle.register.specs.Tables.{trusted, finalOf}
 use Rattle.register.specs.Fitness.{countsFit, blockFits, messageFits, stateFits, fit}
 use Rattle.register.specs.Promises.{Sizes}

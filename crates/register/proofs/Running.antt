@@ -10,12 +10,7 @@ use lib.ListN.{length, take, getD, set, replicate, length-append, length-map}
 use lib.Seq.{take-suc, length-take-le, set-append-seam}
 use Rattle.words.specs.Tests.{choose}
 use Rattle.words.specs.Digits.{withMember}
-use Rattle.register.specs.declared.step.Step.{Step}
-use Rattle.register.specs.declared.change.Change.{Change}
-use Rattle.register.specs.declared.table.Register.{Register}
-use Rattle.register.specs.declared.table.Stepped.{Stepped}
-use Rattle.register.specs.declared.table.Ran.{Ran}
-use Rattle.register.specs.declared.book.Book.{Book}
+use Rattle.register.specs.Types.{Step, Register, Stepped, Ran, Book, Change}
 use Rattle.register.specs.Books.{bookOf, registerOf}
 use Rattle.register.specs.Fitness.{fit}
 use Rattle.register.specs.Steps.{Outcome, judged, ruleOf, bookRule, stepRule}

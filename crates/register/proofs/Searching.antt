@@ -19,7 +19,7 @@ use Rattle.tables.proofs.Scans.{signs}
 use Rattle.tables.proofs.Chains.{parent-in-lt}
 use Rattle.tables.proofs.Views.{view-enough}
 use Rattle.tables.proofs.Searching.{certified-same, certified-above}
-use Rattle.register.specs.declared.book.Book.{Book}
+use Rattle.register.specs.Types.{Book}
 use Rattle.register.specs.Tables.{trusted, parentOf, epochOf}
 use Rattle.register.specs.Views.{stage, inView, says, signed, signers, notarised}
 use Rattle.register.specs.Chains.{chain, chainLength, chainNotarised, longer, longest}

@@ -11,7 +11,7 @@ use Rattle.words.proofs.Tests.{clash}
 use Rattle.words.proofs.Digits.{digit-lt, digit-fill, fill-ext, fill-min}
 use Rattle.tables.specs.Blocks.{trustedIn}
 use Rattle.tables.specs.Messages.{absent, transit, view}
-use Rattle.register.specs.declared.book.Book.{Book}
+use Rattle.register.specs.Types.{Book}
 use Rattle.register.specs.Tables.{trusted}
 use Rattle.register.specs.Effects.{sentStage, sentPlace}
 

@@ -13,12 +13,7 @@ use Rattle.words.specs.Tests.{choose}
 use Rattle.words.specs.Digits.{digit, withMember}
 use Rattle.words.proofs.Tests.{either-cases}
 use Rattle.words.proofs.Digits.{digit-zero, digit-past, member-put}
-use Rattle.register.specs.declared.sorts.Office.{Office}
-use Rattle.register.specs.declared.step.Step.{Step}
-use Rattle.register.specs.declared.step.Step.the-variants as steps
-use Rattle.register.specs.declared.table.OfficeState.{OfficeState}
-use Rattle.register.specs.declared.actor.Actor.{Actor}
-use Rattle.register.specs.declared.book.Book.{Book}
+use Rattle.register.specs.Types.{Office, Step, OfficeState, Book, Actor}
 use Rattle.register.specs.Books.{block}
 use Rattle.register.specs.Tables.{stateOf, parentOf, finalOf}
 use Rattle.register.specs.Chains.{chainNotarised}
@@ -39,14 +34,14 @@ none-settled r q l h = absurd (omega (arith, digit-zero 2 q, eqb-true (digit 2 0
 -- a step leaves the state of every office but its actor
 others-stay : (r : Book) (step : Step) (q : ℕ) → (q ≡ actorOf step .0 → ⊥) → stateOf (ruleOf r step .effect) q ≡ stateOf r q
 unfolding ruleOf actorOf withActed withSent withMoved withState withBlock withNextEpoch
-others-stay r (steps.Propose office parent w) q other = unfold propose in named-keeps r _ (λ (x : Book). stateOf x q) refl
-others-stay r (steps.Vote office message) q other = unfold vote in refl
-others-stay r (steps.Register office message) q other = unfold register in refl
-others-stay r (steps.Finalise office newest) q other = unfold finalise in getD-set-other (r .offices) (office .0) q _ _ other
-others-stay r (steps.Deliver message office) q other = unfold deliver in refl
-others-stay r (steps.BadSend sender kind signer about) q other = unfold badSend in refl
-others-stay r (steps.Draft parent epoch w) q other = unfold draft in named-keeps r _ (λ (x : Book). stateOf x q) refl
-others-stay r steps.Advance q other = unfold advance in refl
+others-stay r (Step.Propose office parent w) q other = unfold propose in named-keeps r _ (λ (x : Book). stateOf x q) refl
+others-stay r (Step.Vote office message) q other = unfold vote in refl
+others-stay r (Step.Register office message) q other = unfold register in refl
+others-stay r (Step.Finalise office newest) q other = unfold finalise in getD-set-other (r .offices) (office .0) q _ _ other
+others-stay r (Step.Deliver message office) q other = unfold deliver in refl
+others-stay r (Step.BadSend sender kind signer about) q other = unfold badSend in refl
+others-stay r (Step.Draft parent epoch w) q other = unfold draft in named-keeps r _ (λ (x : Book). stateOf x q) refl
+others-stay r Step.Advance q other = unfold advance in refl
 
 -- where the book grows and an office keeps its state, its final block stays settled
 settled-kept : {r s : Book} (q : ℕ) → Grows r s → stateOf s q ≡ stateOf r q → Settled r q → Settled s q
@@ -87,16 +82,16 @@ settled-new r q c state is low n = by (decLt q (length (r .offices)))
 -- an accepted step settles the final block of its actor
 settled-actor : (r : Book) (step : Step) → Accepted r step → actorOf step .0 < 32 → Settled (ruleOf r step .effect) (actorOf step .0)
 unfolding actorOf ruleOf finalise
-settled-actor r (steps.Propose office parent w) a l = absurd (omega arith)
-settled-actor r (steps.Vote office message) a l = absurd (omega arith)
-settled-actor r (steps.Register office message) a l = absurd (omega arith)
-settled-actor r (steps.Finalise office newest) a l =
+settled-actor r (Step.Propose office parent w) a l = absurd (omega arith)
+settled-actor r (Step.Vote office message) a l = absurd (omega arith)
+settled-actor r (Step.Register office message) a l = absurd (omega arith)
+settled-actor r (Step.Finalise office newest) a l =
     settled-new r (office .0) (parentOf r (newest .0)) _ refl (omega (arith, parent-le r (newest .0), a .block))
     (notarised-parent r (office .0) (newest .0) (a .three .newest) (a .three .chain))
-settled-actor r (steps.Deliver message office) a l = absurd (omega arith)
-settled-actor r (steps.BadSend sender kind signer about) a l = absurd (omega arith)
-settled-actor r (steps.Draft parent epoch w) a l = absurd (omega arith)
-settled-actor r steps.Advance a l = absurd (omega arith)
+settled-actor r (Step.Deliver message office) a l = absurd (omega arith)
+settled-actor r (Step.BadSend sender kind signer about) a l = absurd (omega arith)
+settled-actor r (Step.Draft parent epoch w) a l = absurd (omega arith)
+settled-actor r Step.Advance a l = absurd (omega arith)
 
 module _ (r : Book) (fits : Bool) (few : fits ≡ true → r .n ≤ 32) (step : Step) where
   -- a final block that is settled is so after any step, accepted or refused

@@ -5,8 +5,7 @@ use mathlib.Core.Bool.{false}
 use native.Mathlib.Omega.{arith}
 use lib.ListN.{getD}
 use lib.Seq.{getD-set-same, getD-set-other}
-use Rattle.register.specs.declared.table.Header.{Header}
-use Rattle.register.specs.declared.book.Book.{Book}
+use Rattle.register.specs.Types.{Header, Book}
 use Rattle.register.specs.Books.{office, epoch, block}
 use Rattle.register.specs.Tables.{Content, headerOf, contentOf, signerOf, aboutOf, kindOf, isVote}
 use Rattle.register.specs.Promises.{Sizes}

@@ -1,9 +1,7 @@
 -- A register and its book are the same numbers.
 use mathlib.Core.Path.{_≡_}
 use mathlib.Core.List.{map-map, map-id}
-use Rattle.register.specs.declared.step.Step.{Step}
-use Rattle.register.specs.declared.table.Register.{Register}
-use Rattle.register.specs.declared.book.Book.{Book}
+use Rattle.register.specs.Types.{Step, Register, Book}
 use Rattle.register.specs.Books.{bookOf, registerOf}
 use Rattle.register.specs.Steps.{bookRule, stepRule}
 

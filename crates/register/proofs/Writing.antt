@@ -7,13 +7,7 @@ use lib.Dec.{leb}
 use lib.ListN.{getD, set}
 use lib.Seq.{set-getD, set-set, set-comm}
 use Rattle.words.specs.Tests.{choose}
-use Rattle.register.specs.declared.sorts.Office.{Office}
-use Rattle.register.specs.declared.sorts.Kind.the-variants.{Proposal, Vote}
-use Rattle.register.specs.declared.table.Header.{Header}
-use Rattle.register.specs.declared.table.OfficeState.{OfficeState}
-use Rattle.register.specs.declared.change.BlockEntry.{BlockEntry}
-use Rattle.register.specs.declared.change.Change.{Change}
-use Rattle.register.specs.declared.book.Book.{Book}
+use Rattle.register.specs.Types.{Office, Kind, Header, OfficeState, Book, BlockEntry, Change}
 use Rattle.register.specs.Books.{block, epoch, changed}
 use Rattle.register.specs.Tables.{Content, stateOf, named, isVote}
 use Rattle.register.specs.Effects.{withBlock, withNamed, sentStage, sentPlace, withSent, withMoved, withActed, withState, withNextEpoch}
@@ -98,7 +92,7 @@ module _ (r : Book) (at : ℕ) (state : OfficeState) (holds : stateOf r at ≡ s
   pub writes-vote : (m b : ℕ) (office : Office) → (r .count ≡ m → ⊥)
       → written r
       (acting (moving (sending same (r .count) true office (block b) (sentPlace r (office .0))) m (movedPlace r m (office .0) 3)) (office .0))
-      ≡ withActed (withSent (withMoved r m (office .0) 3) (office .0) (record { kind = Vote; signer = office; about = block b })) (office .0)
+      ≡ withActed (withSent (withMoved r m (office .0) 3) (office .0) (record { kind = Kind.Vote; signer = office; about = block b })) (office .0)
   unfolding unchangedOf withActed withSent withMoved isVote sentStage
   writes-vote m b office other =
       let w : ℕ = sentPlace r (office .0) in
@@ -145,7 +139,7 @@ module _ (r : Book) (at : ℕ) (state : OfficeState) (holds : stateOf r at ≡ s
     writes-proposed : (office : Office) (there : Bool) (b : ℕ) → (there ≡ false → b ≡ r .last .0 + 1)
         → written r (proposed office there b)
         ≡ withActed
-        (withSent (choose there r (withBlock r new)) (office .0) (record { kind = Proposal; signer = office; about = block b })) (office .0)
+        (withSent (choose there r (withBlock r new)) (office .0) (record { kind = Kind.Proposal; signer = office; about = block b })) (office .0)
     unfolding proposed called entry unchangedOf choose withActed withSent withBlock isVote sentStage
     writes-proposed office true b next =
         let w : ℕ = sentPlace r (office .0) in
@@ -156,7 +150,7 @@ module _ (r : Book) (at : ℕ) (state : OfficeState) (holds : stateOf r at ≡ s
         subst⁻¹
         (λ (x : ℕ).
         written r (proposed office false x)
-        ≡ withActed (withSent (withBlock r new) (office .0) (record { kind = Proposal; signer = office; about = block x })) (office .0))
+        ≡ withActed (withSent (withBlock r new) (office .0) (record { kind = Kind.Proposal; signer = office; about = block x })) (office .0))
         (next refl)
         (by-columns r (proposed office false (r .last .0 + 1)) refl refl refl refl refl refl (set-set (r .places) (r .count) w w) kept-office)
 
@@ -166,6 +160,6 @@ module _ (r : Book) (at : ℕ) (state : OfficeState) (holds : stateOf r at ≡ s
         (acting
         (sending (naming same (named r new) new) (r .count) false office (block (named r new)) (sentPlace r (office .0))) (office .0))
         ≡ withActed
-        (withSent (withNamed r new) (office .0) (record { kind = Proposal; signer = office; about = block (named r new) })) (office .0)
+        (withSent (withNamed r new) (office .0) (record { kind = Kind.Proposal; signer = office; about = block (named r new) })) (office .0)
     unfolding naming withNamed proposed called entry unchangedOf
     writes-propose office = writes-proposed office (leb (named r new) (r .last .0)) (named r new) (next-block r new)

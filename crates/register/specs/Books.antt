@@ -3,12 +3,7 @@
 use Prim.Native.Nat.{ℕ}
 use mathlib.Core.Bool.{Bool}
 use mathlib.Core.List.{List, map}
-use Rattle.register.specs.declared.sorts.Office.{Office}
-use Rattle.register.specs.declared.sorts.Epoch.{Epoch}
-use Rattle.register.specs.declared.sorts.Block.{Block}
-use Rattle.register.specs.declared.table.OfficeState.{OfficeState}
-use Rattle.register.specs.declared.table.Register.{Register}
-use Rattle.register.specs.declared.book.Book.{Book}
+use Rattle.register.specs.Types.{Office, Epoch, Block, OfficeState, Register, Book}
 
 -- a number as one of the sorts, and back
 abbrev pub office : ℕ → Office

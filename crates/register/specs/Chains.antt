@@ -6,7 +6,7 @@ use lib.Dec.{ltb, leb}
 use lib.ListN.{length}
 use Rattle.words.specs.Tests.{choose, both, any, every, member}
 use Rattle.tables.specs.Chains.{chainBy}
-use Rattle.register.specs.declared.book.Book.{Book}
+use Rattle.register.specs.Types.{Book}
 use Rattle.register.specs.Tables.{parentOf, epochOf}
 use Rattle.register.specs.Views.{notarised}
 

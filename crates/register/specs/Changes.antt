@@ -9,17 +9,7 @@ use Rattle.words.specs.Tests.{choose}
 use Rattle.words.specs.Digits.{withMember, withStage}
 use Rattle.words.specs.Refusals.{first}
 use Rattle.tables.specs.Messages.{inbox, view}
-use Rattle.register.specs.declared.sorts.Office.{Office}
-use Rattle.register.specs.declared.sorts.Epoch.{Epoch}
-use Rattle.register.specs.declared.sorts.Block.{Block}
-use Rattle.register.specs.declared.sorts.Message.{Message}
-use Rattle.register.specs.declared.sorts.Kind.{Kind}
-use Rattle.register.specs.declared.step.Step.{Step}
-use Rattle.register.specs.declared.table.Header.{Header}
-use Rattle.register.specs.declared.table.OfficeState.{OfficeState}
-use Rattle.register.specs.declared.change.Clock.{Clock}
-use Rattle.register.specs.declared.change.Change.{Change}
-use Rattle.register.specs.declared.book.Book.{Book}
+use Rattle.register.specs.Types.{Office, Epoch, Block, Message, Kind, Step, Header, OfficeState, Book, Clock, Change}
 use Rattle.register.specs.Books.{epoch, block, changed}
 use Rattle.register.specs.Tables.{stateIn, headerOf, parentOf, named, isVote, aboutOf}
 use Rattle.register.specs.Effects.{sentPlace, finalising}

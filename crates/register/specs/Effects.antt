@@ -5,9 +5,7 @@ use lib.ListN.{getD, set}
 use Rattle.words.specs.Tests.{choose}
 use Rattle.words.specs.Digits.{fill, withMember, withStage}
 use Rattle.tables.specs.Messages.{absent, transit, view}
-use Rattle.register.specs.declared.table.Header.{Header}
-use Rattle.register.specs.declared.table.OfficeState.{OfficeState}
-use Rattle.register.specs.declared.book.Book.{Book}
+use Rattle.register.specs.Types.{Header, OfficeState, Book}
 use Rattle.register.specs.Books.{epoch, block, blocksOf, messagesOf, changed}
 use Rattle.register.specs.Tables.{Content, trusted, named, isVote}
 

@@ -5,8 +5,7 @@ use mathlib.Core.List.{[], _∷_}
 use lib.Dec.{ltb, leb}
 use lib.ListN.{getD}
 use Rattle.words.specs.Tests.{both, either, conj, all, between}
-use Rattle.register.specs.declared.book.Book.{Book}
-use Rattle.register.specs.declared.table.OfficeState.{OfficeState}
+use Rattle.register.specs.Types.{OfficeState, Book}
 use Rattle.register.specs.Limits.{mostOffices, mostEpochs, mostBlocks, mostMessages, widestEpoch}
 use Rattle.register.specs.Tables.{trusted, stateOf}
 

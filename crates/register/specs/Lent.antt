@@ -3,9 +3,7 @@
 use Prim.Native.Nat.{ℕ, _≤_}
 use mathlib.Core.Bool.{Bool}
 use mathlib.Core.List.{List, []}
-use Rattle.register.specs.declared.table.OfficeState.{OfficeState}
-use Rattle.register.specs.declared.change.Scalars.{Scalars}
-use Rattle.register.specs.declared.book.Book.{Book}
+use Rattle.register.specs.Types.{OfficeState, Book, Scalars}
 use Rattle.register.specs.Limits.{mostOffices, mostEpochs, mostBlocks, mostMessages}
 
 -- columns of blocks and of messages

@@ -7,9 +7,7 @@ use lib.ListN.{length, replicate}
 use Rattle.words.specs.Tests.{choose}
 use Rattle.words.specs.Digits.{digit, fill}
 use Rattle.quorum.specs.Opening.{openingRefusal}
-use Rattle.register.specs.declared.table.Register.{Register}
-use Rattle.register.specs.declared.table.Opened.{Opened}
-use Rattle.register.specs.declared.book.Book.{Book}
+use Rattle.register.specs.Types.{Register, Opened, Book}
 use Rattle.register.specs.Limits.{mostEpochs}
 use Rattle.register.specs.Books.{epoch, block, registerOf}
 

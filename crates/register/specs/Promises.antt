@@ -4,9 +4,7 @@ use mathlib.Core.Path.{_≡_}
 use mathlib.Core.Bool.{true}
 use mathlib.Core.List.{List}
 use lib.ListN.{length}
-use Rattle.register.specs.declared.step.Step.{Step}
-use Rattle.register.specs.declared.table.Register.{Register}
-use Rattle.register.specs.declared.book.Book.{Book}
+use Rattle.register.specs.Types.{Step, Register, Book}
 use Rattle.register.specs.Books.{bookOf}
 use Rattle.register.specs.Fitness.{fit}
 use Rattle.register.specs.Opening.{closed, opening}

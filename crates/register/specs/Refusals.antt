@@ -6,9 +6,7 @@ use lib.Dec.{eqb, ltb, leb}
 use lib.ListN.{getD}
 use Rattle.words.specs.Tests.{both, either, conj}
 use Rattle.tables.specs.Messages.{historyIn}
-use Rattle.register.specs.declared.sorts.Kind.{Kind}
-use Rattle.register.specs.declared.table.Header.{Header}
-use Rattle.register.specs.declared.book.Book.{Book}
+use Rattle.register.specs.Types.{Kind, Header, Book}
 use Rattle.register.specs.Limits.{mostBlocks, mostMessages, widestEpoch}
 use Rattle.register.specs.Tables.{trusted, leaderOf, parentOf, epochOf, named, signerOf, aboutOf, isVote}
 use Rattle.register.specs.Views.{inTransit, inInbox, signed}

@@ -3,10 +3,7 @@ use Prim.Native.Nat.{ℕ, _-_}
 use mathlib.Core.Path.{_≡_}
 use mathlib.Core.List.{List, [], _∷_, _++_, map}
 use lib.ListN.{length, take, replicate}
-use Rattle.register.specs.declared.step.Step.{Step}
-use Rattle.register.specs.declared.table.Register.{Register}
-use Rattle.register.specs.declared.table.Stepped.{Stepped}
-use Rattle.register.specs.declared.table.Ran.{Ran}
+use Rattle.register.specs.Types.{Step, Register, Stepped, Ran}
 use Rattle.register.specs.Limits.{batch}
 use Rattle.register.specs.Opening.{opening}
 use Rattle.register.specs.Steps.{stepRule}

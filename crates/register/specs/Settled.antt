@@ -6,13 +6,7 @@ use mathlib.Core.Path.{_≡_}
 use lib.Dec.{eqb}
 use Rattle.words.specs.Tests.{choose}
 use Rattle.words.specs.Digits.{digit}
-use Rattle.register.specs.declared.sorts.Office.{Office}
-use Rattle.register.specs.declared.sorts.Block.{Block}
-use Rattle.register.specs.declared.step.Step.{Step}
-use Rattle.register.specs.declared.step.Step.the-variants as steps
-use Rattle.register.specs.declared.table.OfficeState.{OfficeState}
-use Rattle.register.specs.declared.actor.Actor.{Actor}
-use Rattle.register.specs.declared.book.Book.{Book}
+use Rattle.register.specs.Types.{Office, Block, Step, OfficeState, Book, Actor}
 use Rattle.register.specs.Books.{block}
 use Rattle.register.specs.Tables.{finalOf}
 use Rattle.register.specs.Chains.{chainNotarised}
@@ -36,14 +30,14 @@ settledBase state set q = choose (eqb (digit 2 set q) 1) (state .finalised) (blo
 
 -- the office whose state a step may change; one that is not there for a step that changes none
 unfoldable pub actorOf : Step → Office
-actorOf (steps.Propose office parent payload) = record { 0 = 32 }
-actorOf (steps.Vote office message) = record { 0 = 32 }
-actorOf (steps.Register office message) = record { 0 = 32 }
-actorOf (steps.Finalise office newest) = office
-actorOf (steps.Deliver message office) = record { 0 = 32 }
-actorOf (steps.BadSend sender kind signer about) = record { 0 = 32 }
-actorOf (steps.Draft parent epoch payload) = record { 0 = 32 }
-actorOf steps.Advance = record { 0 = 32 }
+actorOf (Step.Propose office parent payload) = record { 0 = 32 }
+actorOf (Step.Vote office message) = record { 0 = 32 }
+actorOf (Step.Register office message) = record { 0 = 32 }
+actorOf (Step.Finalise office newest) = office
+actorOf (Step.Deliver message office) = record { 0 = 32 }
+actorOf (Step.BadSend sender kind signer about) = record { 0 = 32 }
+actorOf (Step.Draft parent epoch payload) = record { 0 = 32 }
+actorOf Step.Advance = record { 0 = 32 }
 
 -- what is known of a step's actor: its place in the table, which is its number where the table has that, and its base
 pub record Acts (r : Book) (step : Step) (actor : Actor) : Type 0 where

@@ -6,18 +6,7 @@ use mathlib.Core.List.{List, [], _∷_}
 use lib.Dec.{eqb}
 use Rattle.words.specs.Tests.{choose, either}
 use Rattle.words.specs.Refusals.{Refusal, _⇒_, first}
-use Rattle.register.specs.declared.sorts.Office.{Office}
-use Rattle.register.specs.declared.sorts.Epoch.{Epoch}
-use Rattle.register.specs.declared.sorts.Block.{Block}
-use Rattle.register.specs.declared.sorts.Message.{Message}
-use Rattle.register.specs.declared.sorts.Kind.{Kind}
-use Rattle.register.specs.declared.sorts.Kind.the-variants as kinds
-use Rattle.register.specs.declared.step.Step.{Step}
-use Rattle.register.specs.declared.step.Step.the-variants as steps
-use Rattle.register.specs.declared.table.Header.{Header}
-use Rattle.register.specs.declared.table.Register.{Register}
-use Rattle.register.specs.declared.table.Stepped.{Stepped}
-use Rattle.register.specs.declared.book.Book.{Book}
+use Rattle.register.specs.Types.{Office, Epoch, Block, Message, Kind, Step, Header, Register, Stepped, Book}
 use Rattle.tables.specs.Messages.{inbox, view}
 use Rattle.register.specs.Books.{block, bookOf, registerOf}
 use Rattle.register.specs.Tables.{trusted, acted, stateOf, parentOf, epochOf, named, aboutOf}
@@ -70,7 +59,7 @@ propose r office parent w =
           ∷ [];
       effect =
           withActed
-          (withSent (withNamed r new) q (record { kind = kinds.Proposal; signer = office; about = block (named r new) }))
+          (withSent (withNamed r new) q (record { kind = Kind.Proposal; signer = office; about = block (named r new) }))
           q;
       value = r .count;
     }
@@ -98,7 +87,7 @@ vote r office message =
           ∷ [];
       effect =
           withActed
-          (withSent (withMoved r m q view) q (record { kind = kinds.Vote; signer = office; about = block b }))
+          (withSent (withMoved r m q view) q (record { kind = Kind.Vote; signer = office; about = block b }))
           q;
       value = r .count;
     }
@@ -176,14 +165,14 @@ advance r = record { tests = (spent r ⇒ 24) ∷ []; effect = withNextEpoch r; 
 
 -- the rule of a step
 unfoldable pub ruleOf : Book → Step → Rule
-ruleOf r (steps.Propose office parent payload) = propose r office parent payload
-ruleOf r (steps.Vote office message) = vote r office message
-ruleOf r (steps.Register office message) = register r office message
-ruleOf r (steps.Finalise office newest) = finalise r office newest
-ruleOf r (steps.Deliver message office) = deliver r message office
-ruleOf r (steps.BadSend sender kind signer about) = badSend r sender kind signer about
-ruleOf r (steps.Draft parent epoch payload) = draft r parent epoch payload
-ruleOf r steps.Advance = advance r
+ruleOf r (Step.Propose office parent payload) = propose r office parent payload
+ruleOf r (Step.Vote office message) = vote r office message
+ruleOf r (Step.Register office message) = register r office message
+ruleOf r (Step.Finalise office newest) = finalise r office newest
+ruleOf r (Step.Deliver message office) = deliver r message office
+ruleOf r (Step.BadSend sender kind signer about) = badSend r sender kind signer about
+ruleOf r (Step.Draft parent epoch payload) = draft r parent epoch payload
+ruleOf r Step.Advance = advance r
 
 -- the refusal of a step: 5 where the register is not fit, else the first of the rule's tests that holds
 unfoldable pub refusal : (fits : Bool) → Rule → ℕ

@@ -8,13 +8,7 @@ use lib.ListN.{getD}
 use Rattle.words.specs.Tests.{choose}
 use Rattle.words.specs.Digits.{digit}
 use Rattle.tables.specs.Blocks.{trustedIn, madeIn, parentIn, epochIn, namedIn}
-use Rattle.register.specs.declared.sorts.Office.{Office}
-use Rattle.register.specs.declared.sorts.Block.{Block}
-use Rattle.register.specs.declared.sorts.Kind.{Kind}
-use Rattle.register.specs.declared.sorts.Kind.the-variants.{Proposal, Vote}
-use Rattle.register.specs.declared.table.OfficeState.{OfficeState}
-use Rattle.register.specs.declared.table.Header.{Header}
-use Rattle.register.specs.declared.book.Book.{Book}
+use Rattle.register.specs.Types.{Office, Block, Kind, Header, OfficeState, Book}
 use Rattle.register.specs.Books.{office, epoch, block}
 
 -- the office is there, and its bit in the trust word is 1
@@ -67,12 +61,12 @@ named r h = namedIn (r .parents) (r .epochs) (r .payloads) (r .last .0) (h .pare
 
 -- a message is a vote or a proposal
 unfoldable pub kindOf : (vote : Bool) → Kind
-kindOf true = Vote
-kindOf false = Proposal
+kindOf true = Kind.Vote
+kindOf false = Kind.Proposal
 
 unfoldable pub isVote : Kind → Bool
-isVote Vote = true
-isVote Proposal = false
+isVote Kind.Vote = true
+isVote Kind.Proposal = false
 
 -- what a message says: its kind, its signer and its block
 pub record Content : Type 0 where

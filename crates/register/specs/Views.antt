@@ -8,7 +8,7 @@ use Rattle.words.specs.Sums.{tally}
 use Rattle.words.specs.Digits.{digit}
 use Rattle.quorum.specs.Enough.{enough}
 use Rattle.tables.specs.Messages.{absent, transit, inbox, view, saysIn}
-use Rattle.register.specs.declared.book.Book.{Book}
+use Rattle.register.specs.Types.{Book}
 use Rattle.register.specs.Tables.{trusted}
 
 -- the stage of message m for office q. An untrusted office keeps nothing, and what was not sent is nowhere.

@@ -4,8 +4,7 @@ use mathlib.Core.Path.{_≡_, refl}
 use mathlib.Core.List.{[], _∷_}
 use denote.Enum.Declared.{tagOf}
 use types.Run.{OneOf, miss}
-use Rattle.register.specs.declared.step.Step.{Step}
-use Rattle.register.specs.declared.step.Step.the-variants as steps
+use Rattle.register.specs.Types.{Step}
 use Rattle.register.specs.Books.{office}
 use Rattle.register.specs.Settled.{actorOf}
 use Rattle.register.proofs.step.Step.{the-type}
@@ -15,14 +14,14 @@ use Rattle.register.proofs.actor.actor_of.Tie as tie
 -- a step of any other kind; 3 is the key of finalise
 others : (step : Step) → OneOf (0 ∷ 1 ∷ 2 ∷ 4 ∷ 5 ∷ 6 ∷ 7 ∷ []) (tagOf the-type step) → office 32 ≡ actorOf step
 unfolding actorOf
-others (steps.Propose office parent payload) key = refl
-others (steps.Vote office message) key = refl
-others (steps.Register office message) key = refl
-others (steps.Finalise office newest) key = absurd (miss (0 ∷ 1 ∷ 2 ∷ 4 ∷ 5 ∷ 6 ∷ 7 ∷ []) 3 tt key)
-others (steps.Deliver message office) key = refl
-others (steps.BadSend sender kind signer about) key = refl
-others (steps.Draft parent epoch payload) key = refl
-others steps.Advance key = refl
+others (Step.Propose office parent payload) key = refl
+others (Step.Vote office message) key = refl
+others (Step.Register office message) key = refl
+others (Step.Finalise office newest) key = absurd (miss (0 ∷ 1 ∷ 2 ∷ 4 ∷ 5 ∷ 6 ∷ 7 ∷ []) 3 tt key)
+others (Step.Deliver message office) key = refl
+others (Step.BadSend sender kind signer about) key = refl
+others (Step.Draft parent epoch payload) key = refl
+others Step.Advance key = refl
 
 pub actor-of-spec : {M : Type 1} → statement M
 unfolding actorOf

@@ -2,9 +2,7 @@
 use borrow.Author.Needs.{needs}
 use mathlib.Core.Path.{_∙_}
 use mathlib.Core.List.{[]}
-use Rattle.register.specs.declared.step.Step.{Step}
-use Rattle.register.specs.declared.step.Step.the-variants as steps
-use Rattle.register.specs.declared.book.Book.{Book}
+use Rattle.register.specs.Types.{Step, Book}
 use Rattle.register.specs.Lent.{lentBook, noBlocks, messages}
 use Rattle.register.specs.Effects.{sentStage}
 use Rattle.register.specs.Steps.{badSend, ruleOf}
@@ -22,7 +20,7 @@ given s =
 
 -- and the step
 abbrev asked : tie.Start → Step
-asked s = steps.BadSend (s .args .sender) (s .args .kind) (s .args .signer) (s .args .b)
+asked s = Step.BadSend (s .args .sender) (s .args .kind) (s .args .signer) (s .args .b)
 
 -- what an accepted bad send's tests tell
 known : (c : tie.Else1) → Accepted (given (c .before .before)) (asked (c .before .before))

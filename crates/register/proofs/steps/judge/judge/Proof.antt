@@ -4,7 +4,7 @@ use Prim.Native.Nat.{_<_}
 use mathlib.Core.Path.{_≡_, subst}
 use mathlib.Core.List.{[]}
 use borrow.Author.Tests.{not-false}
-use Rattle.register.specs.declared.step.Step.{Step}
+use Rattle.register.specs.Types.{Step}
 use Rattle.register.specs.Lent.{Counted, blocks, messages}
 use Rattle.register.specs.Settled.{Base, actorOf}
 use Rattle.register.proofs.Lending.{Lent, given, base-lent, judged-unfit, judged-propose, judged-vote, judged-register, judged-finalise, judged-deliver, judged-bad-send, judged-draft, judged-advance}

@@ -3,9 +3,7 @@ use borrow.Author.Needs.{needs}
 use mathlib.Core.Path.{_∙_}
 use mathlib.Core.List.{[]}
 use native.Mathlib.Omega.{arith}
-use Rattle.register.specs.declared.step.Step.{Step}
-use Rattle.register.specs.declared.step.Step.the-variants as steps
-use Rattle.register.specs.declared.book.Book.{Book}
+use Rattle.register.specs.Types.{Step, Book}
 use Rattle.register.specs.Lent.{lentBook, noBlocks, messages}
 use Rattle.register.specs.Steps.{register, ruleOf}
 use Rattle.register.specs.Changes.{registerChange}
@@ -23,7 +21,7 @@ given s =
 
 -- and the step
 abbrev asked : tie.Start → Step
-asked s = steps.Register (s .args .office) (s .args .message)
+asked s = Step.Register (s .args .office) (s .args .message)
 
 -- what an accepted register step's tests tell
 known : (c : tie.Else1) → Accepted (given (c .before .before)) (asked (c .before .before))

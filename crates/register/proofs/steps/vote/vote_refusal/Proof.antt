@@ -11,7 +11,7 @@ use Rattle.words.specs.Refusals.{Refusal, first, until, since}
 use Rattle.words.proofs.Refusals.{positive}
 use Rattle.words.proofs.Clearing.{Clear, clear}
 use Rattle.words.proofs.Turns.{turns, hit, skip, answered}
-use Rattle.register.specs.declared.book.Book.{Book}
+use Rattle.register.specs.Types.{Book}
 use Rattle.register.specs.Lent.{lentBook, blocks, messages}
 use Rattle.register.specs.Tables.{trusted}
 use Rattle.register.specs.Views.{stage, signed}

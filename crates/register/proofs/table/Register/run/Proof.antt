@@ -4,9 +4,7 @@ use Prim.Native.Nat.{_-_, _<_, _≤_, min}
 use mathlib.Core.Path.{_≡_, refl}
 use native.Mathlib.Omega.{arith}
 use lib.ListN.{length, getD}
-use Rattle.register.specs.declared.step.Step.{Step}
-use Rattle.register.specs.declared.step.Step.the-variants.{Propose}
-use Rattle.register.specs.declared.actor.Actor.{Actor}
+use Rattle.register.specs.Types.{Step, Actor}
 use Rattle.register.specs.Books.{office, block, registerOf}
 use Rattle.register.specs.Views.{stage, signed, notarised}
 use Rattle.register.specs.Chains.{chain, chainNotarised}
@@ -40,7 +38,7 @@ below c = omega arith
 
 -- the step of a turn
 abbrev step : tie.In-loop Inv-loop μ-loop → Step
-step c = getD (c .before .before .before .before .before .before .before .before .before .before .before .before .before .before .args .t2) (c .before .loop .i) (Propose (office 0) (block 0) 0)
+step c = getD (c .before .before .before .before .before .before .before .before .before .before .before .before .before .before .args .t2) (c .before .loop .i) (Step.Propose (office 0) (block 0) 0)
 
 -- its actor
 abbrev actor : tie.After-settled-base Inv-loop μ-loop → Actor

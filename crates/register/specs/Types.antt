@@ -1,0 +1,19 @@
+-- The types of the code, as the rules name them.
+pub use Rattle.register.specs.declared.sorts.Office.{Office}
+pub use Rattle.register.specs.declared.sorts.Epoch.{Epoch}
+pub use Rattle.register.specs.declared.sorts.Block.{Block}
+pub use Rattle.register.specs.declared.sorts.Message.{Message}
+pub use Rattle.register.specs.declared.sorts.Kind.{Kind}
+pub use Rattle.register.specs.declared.step.Step.{Step}
+pub use Rattle.register.specs.declared.table.Header.{Header}
+pub use Rattle.register.specs.declared.table.OfficeState.{OfficeState}
+pub use Rattle.register.specs.declared.table.Register.{Register}
+pub use Rattle.register.specs.declared.table.Opened.{Opened}
+pub use Rattle.register.specs.declared.table.Stepped.{Stepped}
+pub use Rattle.register.specs.declared.table.Ran.{Ran}
+pub use Rattle.register.specs.declared.book.Book.{Book}
+pub use Rattle.register.specs.declared.change.Scalars.{Scalars}
+pub use Rattle.register.specs.declared.change.Clock.{Clock}
+pub use Rattle.register.specs.declared.change.BlockEntry.{BlockEntry}
+pub use Rattle.register.specs.declared.change.Change.{Change}
+pub use Rattle.register.specs.declared.actor.Actor.{Actor}
