@@ -18,9 +18,9 @@ use Rattle.register.specs.Types.{Step, Book, Change}
 use Rattle.register.specs.Tables.{trusted}
 use Rattle.register.specs.Views.{stage, signed, signers, notarised}
 use Rattle.register.specs.Chains.{chain, chainNotarised, longer, longest}
-use Rattle.register.specs.Steps.{Rule, ruleOf}
+use Rattle.register.specs.Steps.{ruleOf}
 use Rattle.register.specs.Lent.{lentBook, blocks, messages}
-use Rattle.register.specs.Changes.{refusing, accepting, decided}
+use Rattle.register.specs.Changes.{refusing, accepting, entriesOf, changeBy}
 use Rattle.register.proofs.Accepted.{Accepted, accepted}
 use Rattle.register.proofs.Searching.{signed-in, longest-by, notarised-above}
 
@@ -110,17 +110,17 @@ module _ (r : Book) (q : ℕ) where
   longest-searched b =
       rw (chain-searched b, any-same (longer r q b) (longer (searched r) q b) (r .last .0 + 1) (λ x k. longer-searched b x))
 
--- a step is refused with the number that was found
-pub refuses : (c a : Change) (rule : Rule) (k : ℕ) → k ≡ first (rule .tests) → (k ≡ 0 → ⊥) → refusing c k ≡ decided c rule a
-unfolding decided choose
-refuses c a rule k e some = rw (← e, ne-eqb k 0 some)
+module _ (c : Change) (r : Book) (step : Step) (k : ℕ) (found : k ≡ first (ruleOf r step .tests)) where
+  -- a step is refused with the number that was found
+  pub refuses : (k ≡ 0 → ⊥) → refusing c k ≡ changeBy c r step
+  unfolding changeBy choose
+  refuses some = rw (← found, ne-eqb k 0 some)
 
--- and accepted where 0 was found
-pub accepts : (c a : Change) (rule : Rule) (k : ℕ) → k ≡ first (rule .tests) → k ≡ 0
-    → accepting a (rule .value) ≡ decided c rule a
-unfolding decided choose
-accepts c a rule k e none = rw (← e, eq-eqb k 0 none)
+  -- and accepted where 0 was found
+  pub accepts : k ≡ 0 → accepting (entriesOf c r step) (ruleOf r step .value) ≡ changeBy c r step
+  unfolding changeBy choose
+  accepts none = rw (← found, eq-eqb k 0 none)
 
 -- and then what an accepted step's tests tell is known
 pub accepted-by : (r : Book) (step : Step) (k : ℕ) → k ≡ first (ruleOf r step .tests) → k ≡ 0 → Accepted r step
-accepted-by r step k e none = accepted r step (sym e ∙ none)
+accepted-by r step k found none = accepted r step (sym found ∙ none)

@@ -17,11 +17,12 @@ use Rattle.register.specs.Steps.{Outcome, judged, ruleOf, bookRule, step
 use Rattle.register.specs.Runs.{afterSteps, answers, padded, ran}
 use Rattle.register.specs.Promises.{Sizes}
 use Rattle.register.specs.Lent.{Counts}
-use Rattle.register.specs.Changes.{written, outcome, CarriesOut}
 use Rattle.register.specs.Settled.{AllSettled, actorOf}
 use Rattle.register.proofs.Typing.{book-register, register-book}
 use Rattle.register.proofs.Ranges.{ranges}
 use Rattle.register.proofs.FitSteps.{fit-step}
+use Rattle.register.proofs.Writing.{written}
+use Rattle.register.proofs.Carrying.{outcome, CarriesOut}
 use Rattle.register.proofs.Settling.{none-settled, settled-next}
 
 -- the register after steps in two parts

@@ -1,6 +1,6 @@
 -- What a change writes to the book is the effect of the step.
 use Prim.Native.Nat.{ℕ, _+_}
-use mathlib.Core.Path.{_≡_, refl, sym, ap, _∙_, subst⁻¹}
+use mathlib.Core.Path.{_≡_, refl, ap, _∙_, subst⁻¹}
 use mathlib.Core.Bool.{Bool, true, false}
 use mathlib.Core.List.{List}
 use lib.Dec.{leb}
@@ -11,8 +11,27 @@ use Rattle.register.specs.Types.{Office, Kind, Header, OfficeState, Book
 use Rattle.register.specs.Books.{block, epoch, changed}
 use Rattle.register.specs.Tables.{Content, stateOf, named, isVote}
 use Rattle.register.specs.Effects.{withBlock, withNamed, sentStage, sentPlace, withSent, withMoved, withActed, withState, withNextEpoch}
-use Rattle.register.specs.Changes.{unchangedOf, written, timing, acting, naming, sending, moving, holding, movedPlace}
+use Rattle.register.specs.Changes.{unchangedOf, timing, acting, naming, sending, moving, holding, movedPlace}
 use Rattle.register.proofs.Naming.{next-block}
+
+-- a book with a change written to it
+unfoldable pub written : Book → Change → Book
+written r c =
+    changed r (c .clock .epoch) (c .clock .acted)
+    (record {
+      last = c .block .last;
+      parents = set (r .parents) (c .block .at) (c .block .header .parent .0);
+      epochs = set (r .epochs) (c .block .at) (c .block .header .epoch .0);
+      payloads = set (r .payloads) (c .block .at) (c .block .header .payload);
+    })
+    (record {
+      count = c .message .count;
+      votes = set (r .votes) (c .message .at) (c .message .vote);
+      signers = set (r .signers) (c .message .at) (c .message .signer .0);
+      about = set (r .about) (c .message .at) (c .message .about .0);
+      places = set (set (r .places) (c .message .at) (c .message .place)) (c .place .at) (c .place .place);
+    })
+    (set (r .offices) (c .office .at) (c .office .state))
 
 -- a change, by what it makes of each column
 by-columns : (r : Book) (c : Change) {P E W : List ℕ} {K : List Bool} {S A L : List ℕ} {O : List OfficeState}
@@ -37,14 +56,14 @@ by-columns r c p e w v s a l o =
 kept : {A : Type 0} (l : List A) (d : A) → set l 0 (getD l 0 d) ≡ l
 kept l d = set-getD l 0 d
 
-module _ (r : Book) (at : ℕ) (state : OfficeState) (holds : stateOf r at ≡ state) where
+module _ (r : Book) (at : ℕ) where
   -- the change that leaves the book as it is
-  abbrev same : Change
-  same = unchangedOf r at state
+  abbrev pub same : Change
+  same = unchangedOf r at (stateOf r at)
 
   -- nor does the state that the acting office holds already
-  kept-office : set (r .offices) at state ≡ r .offices
-  kept-office = subst⁻¹ (λ (s : OfficeState). set (r .offices) at s ≡ r .offices) (sym holds) (set-getD (r .offices) at _)
+  kept-office : set (r .offices) at (stateOf r at) ≡ r .offices
+  kept-office = set-getD (r .offices) at _
 
   -- nor does an entry of the first message's places under the word of another's
   kept-under : (m w : ℕ) → set (set (r .places) 0 (getD (r .places) 0 0)) m w ≡ set (r .places) m w
@@ -54,7 +73,7 @@ module _ (r : Book) (at : ℕ) (state : OfficeState) (holds : stateOf r at ≡ s
   pub writes-nothing : written r same ≡ r
   unfolding unchangedOf
   writes-nothing =
-      by-columns r (unchangedOf r at state) (kept (r .parents) 0) (kept (r .epochs) 0) (kept (r .payloads) 0) (kept (r .votes) false)
+      by-columns r same (kept (r .parents) 0) (kept (r .epochs) 0) (kept (r .payloads) 0) (kept (r .votes) false)
       (kept (r .signers) 0) (kept (r .about) 0) (kept-under 0 (getD (r .places) 0 0) ∙ kept (r .places) 0) kept-office
 
   -- register and deliver

@@ -6,7 +6,7 @@ use mathlib.Core.Path.{_≡_}
 use lib.Dec.{eqb}
 use Rattle.words.specs.Tests.{choose}
 use Rattle.words.specs.Digits.{digit}
-use Rattle.register.specs.Types.{Office, Block, Step, OfficeState, Book, Actor}
+use Rattle.register.specs.Types.{Office, Block, Step, OfficeState, Book}
 use Rattle.register.specs.Books.{block}
 use Rattle.register.specs.Tables.{finalOf}
 use Rattle.register.specs.Chains.{chainNotarised}
@@ -38,9 +38,3 @@ actorOf (Step.Deliver message office) = record { 0 = 32 }
 actorOf (Step.BadSend sender kind signer about) = record { 0 = 32 }
 actorOf (Step.Draft parent epoch payload) = record { 0 = 32 }
 actorOf Step.Advance = record { 0 = 32 }
-
--- what is known of a step's actor: its place in the table, which is its number where the table has that, and its base
-pub record Acts (r : Book) (step : Step) (actor : Actor) : Type 0 where
-  pub within : actor .at < 32
-  pub own : actorOf step .0 < 32 → actor .at ≡ actorOf step .0
-  pub base : Base r (actorOf step .0) (actor .base .0)

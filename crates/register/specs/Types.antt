@@ -15,5 +15,9 @@ pub use Rattle.register.specs.declared.book.Book.{Book}
 pub use Rattle.register.specs.declared.change.Scalars.{Scalars}
 pub use Rattle.register.specs.declared.change.Clock.{Clock}
 pub use Rattle.register.specs.declared.change.BlockEntry.{BlockEntry}
+pub use Rattle.register.specs.declared.change.MessageEntry.{MessageEntry}
+pub use Rattle.register.specs.declared.change.PlaceEntry.{PlaceEntry}
+pub use Rattle.register.specs.declared.change.OfficeEntry.{OfficeEntry}
+pub use Rattle.register.specs.declared.change.Answer.{Answer}
 pub use Rattle.register.specs.declared.change.Change.{Change}
 pub use Rattle.register.specs.declared.actor.Actor.{Actor}

@@ -1,8 +1,9 @@
 // Advance: the next epoch, every trusted office ready.
 ghost use mathlib.Core.Path.{_≡_};
 ghost use mathlib.Core.List.{[]};
+ghost use Rattle.register.specs.Types.{Step};
 ghost use Rattle.register.specs.Lent.{Counted, lentBook, noBlocks, noMessages};
-ghost use Rattle.register.specs.Changes.{advanceChange};
+ghost use Rattle.register.specs.Changes.{changeBy};
 use crate::change::Change;
 use crate::change::Clock;
 use crate::change::Scalars;
@@ -11,7 +12,7 @@ use crate::sorts::Epoch;
 
 pub(crate) fn advance(unchanged: Change, scalars: Scalars) -> Change
     requires { ⌜ Counted scalars ⌝ }
-    ensures { λ r. ⌜ r ≡ advanceChange unchanged (lentBook scalars [] noBlocks noMessages) ⌝ }
+    ensures { λ r. ⌜ r ≡ changeBy unchanged (lentBook scalars [] noBlocks noMessages) Step.Advance ⌝ }
 {
     let epoch = scalars.epoch.0;
     if scalars.length <= epoch {

@@ -3,11 +3,12 @@ ghost use mathlib.Core.Path.{_≡_};
 ghost use mathlib.Core.List.{[]};
 ghost use Rattle.words.specs.Lent.{lent};
 ghost use Rattle.words.specs.Refusals.{first};
+ghost use Rattle.register.specs.Types.{Step};
 ghost use Rattle.register.specs.Tables.{isVote};
 ghost use Rattle.register.specs.Refusals.{forged};
 ghost use Rattle.register.specs.Steps.{badSend};
 ghost use Rattle.register.specs.Lent.{Counted, lentBook, noBlocks, messages};
-ghost use Rattle.register.specs.Changes.{badSendChange};
+ghost use Rattle.register.specs.Changes.{changeBy};
 use crate::change::Change;
 use crate::change::Scalars;
 use crate::columns::About;
@@ -100,9 +101,9 @@ pub(crate) fn bad_send<'a>(
     b: Block,
 ) -> Change
     requires { ⌜ Counted scalars ⌝ }
-    ensures { λ r. ⌜ r ≡ badSendChange unchanged
+    ensures { λ r. ⌜ r ≡ changeBy unchanged
         (lentBook scalars [] noBlocks (messages (lent votes) (lent signers) (lent about) []))
-        sender kind signer b ⌝ }
+        (Step.BadSend sender kind signer b) ⌝ }
 {
     let refusal = bad_send_refusal(scalars, votes, signers, about, sender, kind, signer, b);
     if refusal != 0 {

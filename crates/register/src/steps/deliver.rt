@@ -3,9 +3,10 @@ ghost use mathlib.Core.Path.{_≡_};
 ghost use mathlib.Core.List.{[]};
 ghost use Rattle.words.specs.Lent.{lent};
 ghost use Rattle.words.specs.Refusals.{first};
+ghost use Rattle.register.specs.Types.{Step};
 ghost use Rattle.register.specs.Steps.{deliver};
 ghost use Rattle.register.specs.Lent.{Counted, lentBook, noBlocks, messages};
-ghost use Rattle.register.specs.Changes.{deliverChange};
+ghost use Rattle.register.specs.Changes.{changeBy};
 use crate::change::Change;
 use crate::change::Scalars;
 use crate::columns::Places;
@@ -43,8 +44,8 @@ pub(crate) fn deliver(
     office: Office,
 ) -> Change
     requires { ⌜ Counted scalars ⌝ }
-    ensures { λ r. ⌜ r ≡ deliverChange unchanged
-        (lentBook scalars [] noBlocks (messages [] [] [] (lent places))) message office ⌝ }
+    ensures { λ r. ⌜ r ≡ changeBy unchanged
+        (lentBook scalars [] noBlocks (messages [] [] [] (lent places))) (Step.Deliver message office) ⌝ }
 {
     let refusal = deliver_refusal(scalars, places, message, office);
     if refusal != 0 {

@@ -2,8 +2,9 @@
 ghost use mathlib.Core.Path.{_≡_};
 ghost use mathlib.Core.List.{[]};
 ghost use Rattle.words.specs.Lent.{lent};
+ghost use Rattle.register.specs.Types.{Step};
 ghost use Rattle.register.specs.Lent.{Counted, lentBook, blocks, noMessages};
-ghost use Rattle.register.specs.Changes.{draftChange};
+ghost use Rattle.register.specs.Changes.{changeBy};
 use crate::change::Change;
 use crate::change::Scalars;
 use crate::columns::Epochs;
@@ -28,9 +29,9 @@ pub(crate) fn draft<'a>(
     payload: u16,
 ) -> Change
     requires { ⌜ Counted scalars ⌝ }
-    ensures { λ r. ⌜ r ≡ draftChange unchanged
+    ensures { λ r. ⌜ r ≡ changeBy unchanged
         (lentBook scalars [] (blocks (lent parents) (lent epochs) (lent payloads)) noMessages)
-        parent epoch payload ⌝ }
+        (Step.Draft parent epoch payload) ⌝ }
 {
     let last = scalars.last.0;
     if last < parent.0 {

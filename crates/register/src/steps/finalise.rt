@@ -8,10 +8,11 @@ ghost use Rattle.words.specs.Lent.{lent};
 ghost use Rattle.words.specs.Tests.{conj};
 ghost use Rattle.words.specs.Refusals.{first};
 ghost use Rattle.tables.specs.Blocks.{trustedIn, epochIn};
+ghost use Rattle.register.specs.Types.{Step};
 ghost use Rattle.register.specs.Refusals.{finalises};
 ghost use Rattle.register.specs.Steps.{finalise};
 ghost use Rattle.register.specs.Lent.{Counted, lentBook, blocks, messages};
-ghost use Rattle.register.specs.Changes.{finaliseChange};
+ghost use Rattle.register.specs.Changes.{changeBy};
 ghost use Rattle.register.specs.Settled.{Base};
 use crate::change::Change;
 use crate::change::Scalars;
@@ -150,10 +151,10 @@ pub(crate) fn finalise<'a>(
         × Base
         (lentBook scalars [] (blocks (now parents) (now epochs) []) (messages [] (now signers) (now about) (now places)))
         (office .0) (base .0) ⌝ }
-    ensures { λ r. ⌜ r ≡ finaliseChange unchanged
+    ensures { λ r. ⌜ r ≡ changeBy unchanged
         (lentBook scalars [] (blocks (lent parents) (lent epochs) [])
         (messages [] (lent signers) (lent about) (lent places)))
-        office newest ⌝ }
+        (Step.Finalise office newest) ⌝ }
 {
     let refusal = finalise_refusal(
         scalars,

@@ -4,8 +4,8 @@ ghost use mathlib.Core.Bool.{true};
 ghost use mathlib.Core.List.{[]};
 ghost use Rattle.words.specs.Lent.{lent};
 ghost use Rattle.register.specs.Lent.{Counted, lentBook, wholeBook, blocks, messages};
-ghost use Rattle.register.specs.Changes.{unchangedOf, CarriesOutFor};
-ghost use Rattle.register.specs.Settled.{Acts};
+ghost use Rattle.register.specs.Changes.{unchangedOf, ChangeFor};
+ghost use Rattle.register.specs.Settled.{Base, actorOf};
 use crate::actor::Actor;
 use crate::change::Answer;
 use crate::change::BlockEntry;
@@ -112,11 +112,11 @@ pub(crate) fn judge<'a>(
     step: Step,
 ) -> Change
     requires { ⌜ (fits ≡ true → Counted scalars)
-        × Acts
+        × Base
         (lentBook scalars (now leaders) (blocks (now parents) (now epochs) (now payloads))
         (messages (now votes) (now signers) (now about) (now places)))
-        step actor ⌝ }
-    ensures { λ r. ⌜ CarriesOutFor fits
+        (actorOf step .0) (actor .base .0) ⌝ }
+    ensures { λ r. ⌜ ChangeFor fits
         (wholeBook scalars (lent leaders) (blocks (lent parents) (lent epochs) (lent payloads))
         (messages (lent votes) (lent signers) (lent about) (lent places)))
         (actor .at) (actor .state) step r ⌝ }

@@ -3,9 +3,10 @@ ghost use mathlib.Core.Path.{_≡_};
 ghost use mathlib.Core.List.{[]};
 ghost use Rattle.words.specs.Lent.{lent};
 ghost use Rattle.words.specs.Refusals.{first, until};
+ghost use Rattle.register.specs.Types.{Step};
 ghost use Rattle.register.specs.Steps.{propose};
 ghost use Rattle.register.specs.Lent.{Counted, lentBook, blocks, noBlocks, messages, noMessages};
-ghost use Rattle.register.specs.Changes.{proposeChange};
+ghost use Rattle.register.specs.Changes.{changeBy};
 use crate::change::Change;
 use crate::change::Scalars;
 use crate::columns::About;
@@ -110,10 +111,10 @@ pub(crate) fn propose<'a>(
     payload: u16,
 ) -> Change
     requires { ⌜ Counted scalars ⌝ }
-    ensures { λ r. ⌜ r ≡ proposeChange unchanged
+    ensures { λ r. ⌜ r ≡ changeBy unchanged
         (lentBook scalars (lent leaders) (blocks (lent parents) (lent epochs) (lent payloads))
         (messages [] (lent signers) (lent about) (lent places)))
-        office parent payload ⌝ }
+        (Step.Propose office parent payload) ⌝ }
 {
     let refusal = parent_refusal(
         scalars,

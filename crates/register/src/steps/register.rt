@@ -3,9 +3,10 @@ ghost use mathlib.Core.Path.{_≡_};
 ghost use mathlib.Core.List.{[]};
 ghost use Rattle.words.specs.Lent.{lent};
 ghost use Rattle.words.specs.Refusals.{first};
+ghost use Rattle.register.specs.Types.{Step};
 ghost use Rattle.register.specs.Steps.{register};
 ghost use Rattle.register.specs.Lent.{Counted, lentBook, noBlocks, messages};
-ghost use Rattle.register.specs.Changes.{registerChange};
+ghost use Rattle.register.specs.Changes.{changeBy};
 use crate::change::Change;
 use crate::change::Scalars;
 use crate::columns::About;
@@ -68,9 +69,9 @@ pub(crate) fn register<'a>(
     message: Message,
 ) -> Change
     requires { ⌜ Counted scalars ⌝ }
-    ensures { λ r. ⌜ r ≡ registerChange unchanged
+    ensures { λ r. ⌜ r ≡ changeBy unchanged
         (lentBook scalars [] noBlocks (messages (lent votes) (lent signers) (lent about) (lent places)))
-        office message ⌝ }
+        (Step.Register office message) ⌝ }
 {
     let refusal = register_refusal(scalars, votes, signers, about, places, office, message);
     if refusal != 0 {

@@ -4,10 +4,11 @@ ghost use mathlib.Core.List.{[]};
 ghost use Prim.Native.Nat.{_<_};
 ghost use Rattle.words.specs.Lent.{lent};
 ghost use Rattle.words.specs.Refusals.{first, until};
+ghost use Rattle.register.specs.Types.{Step};
 ghost use Rattle.register.specs.Refusals.{offEpoch};
 ghost use Rattle.register.specs.Steps.{vote};
 ghost use Rattle.register.specs.Lent.{Counted, lentBook, blocks, messages};
-ghost use Rattle.register.specs.Changes.{voteChange};
+ghost use Rattle.register.specs.Changes.{changeBy};
 use crate::change::Change;
 use crate::change::Scalars;
 use crate::columns::About;
@@ -173,10 +174,10 @@ pub(crate) fn vote<'a>(
     message: Message,
 ) -> Change
     requires { ⌜ Counted scalars ⌝ }
-    ensures { λ r. ⌜ r ≡ voteChange unchanged
+    ensures { λ r. ⌜ r ≡ changeBy unchanged
         (lentBook scalars (lent leaders) (blocks (lent parents) (lent epochs) [])
         (messages (lent votes) (lent signers) (lent about) (lent places)))
-        office message ⌝ }
+        (Step.Vote office message) ⌝ }
 {
     let refusal = vote_refusal(
         scalars,

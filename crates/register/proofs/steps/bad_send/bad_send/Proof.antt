@@ -6,7 +6,7 @@ use Rattle.register.specs.Types.{Step, Book}
 use Rattle.register.specs.Lent.{lentBook, noBlocks, messages}
 use Rattle.register.specs.Effects.{sentStage}
 use Rattle.register.specs.Steps.{badSend, ruleOf}
-use Rattle.register.specs.Changes.{badSendChange}
+use Rattle.register.specs.Changes.{entriesOf}
 use Rattle.register.proofs.Accepted.{Accepted}
 use Rattle.register.proofs.Answering.{refuses, accepts, accepted-by}
 use Rattle.register.proofs.steps.bad_send.bad_send.Statement.{statement}
@@ -30,7 +30,7 @@ known c =
     (c .if1 .left)
 
 pub bad-send-spec : {M : Type 1} → statement M
-unfolding badSendChange badSend sentStage
+unfolding ruleOf entriesOf badSend sentStage
 bad-send-spec =
     tie.close
     (tie.spec

@@ -6,7 +6,7 @@ use native.Mathlib.Omega.{arith}
 use Rattle.register.specs.Types.{Step, Book}
 use Rattle.register.specs.Lent.{lentBook, noBlocks, messages}
 use Rattle.register.specs.Steps.{deliver, ruleOf}
-use Rattle.register.specs.Changes.{deliverChange}
+use Rattle.register.specs.Changes.{entriesOf}
 use Rattle.register.proofs.Accepted.{Accepted}
 use Rattle.register.proofs.Answering.{refuses, accepts, accepted-by}
 use Rattle.register.proofs.steps.deliver.deliver.Statement.{statement}
@@ -30,7 +30,7 @@ known c =
     (c .if1 .left)
 
 pub deliver-spec : {M : Type 1} → statement M
-unfolding deliverChange deliver
+unfolding ruleOf entriesOf deliver
 deliver-spec =
     tie.close
     (tie.spec

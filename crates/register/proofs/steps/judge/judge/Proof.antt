@@ -1,13 +1,13 @@
--- `judge`: a book that is not fit gets 5; else each step's own function gives the change that carries it out.
+-- `judge`: a book that is not fit gets 5; else each step's own function gives the step's change.
 use borrow.Author.Needs.{needs}
-use Prim.Native.Nat.{_<_}
-use mathlib.Core.Path.{_≡_, subst}
-use mathlib.Core.List.{[]}
+use mathlib.Core.Path.{_≡_, _∙_, subst}
+use mathlib.Core.List.{List, []}
 use borrow.Author.Tests.{not-false}
-use Rattle.register.specs.Types.{Step}
+use Rattle.register.specs.Types.{Step, OfficeState, Change}
 use Rattle.register.specs.Lent.{Counted, blocks, messages}
+use Rattle.register.specs.Changes.{changeBy, ChangeFor}
 use Rattle.register.specs.Settled.{Base, actorOf}
-use Rattle.register.proofs.Lending.{Lent, given, base-lent, judged-unfit, judged-propose, judged-vote, judged-register, judged-finalise, judged-deliver, judged-bad-send, judged-draft, judged-advance}
+use Rattle.register.proofs.Lending.{Lent, given, base-lent, promised, promised-unfit, lent-propose, lent-vote, lent-register, lent-finalise, lent-deliver, lent-bad-send, lent-draft, lent-advance}
 use Rattle.register.proofs.steps.judge.judge.Statement.{statement}
 use Rattle.register.proofs.steps.judge.judge.Tie as tie
 
@@ -26,12 +26,11 @@ lent s =
 counted : (c : tie.Else1) → Counted (c .before .before .args .scalars)
 counted c = c .before .before .pre .0 (not-false _ (c .if1 .left))
 
-returns : tie.Need-returns
-returns c =
-    let at = c .before .before in
-    let s = at .before in
-    λ offices holds.
-    judged-unfit (lent s) offices _ _ holds (s .pre .1 .within) _ _ (at .unchanged .ensures) _ _ (c .before .if1 .taken) (c .refused .ensures)
+-- and a step's change by the whole book is the one that is promised
+arm : (c : tie.Else1) (kind : Step) (x : Change) → c .before .before .args .step ≡ kind
+    → ((offices : List OfficeState) → x ≡ changeBy (c .before .unchanged .result) (given (lent (c .before .before)) offices) kind)
+    → (let a = c .before .before .args in ChangeFor (a .fits) (given (lent (c .before .before))) (a .actor .at) (a .actor .state) (a .step) x)
+arm c kind x named = promised _ _ _ _ x (c .before .unchanged .ensures) _ _ (c .if1 .left) kind named
 
 finalise-requires : tie.Need-finalise-requires
 unfolding actorOf
@@ -39,74 +38,8 @@ finalise-requires c κs =
     let at = c .before .before .before .before in
     let s = at .before .before in
     let own : (x : Step) → s .args .step ≡ x → Base (given (lent s) []) (actorOf x .0) (s .args .actor .base .0) =
-    λ x e. subst (λ (y : Step). Base (given (lent s) []) (actorOf y .0) (s .args .actor .base .0)) e (s .pre .1 .base) in
+    λ x e. subst (λ (y : Step). Base (given (lent s) []) (actorOf y .0) (s .args .actor .base .0)) e (s .pre .1) in
     (counted at, base-lent (lent s) _ _ (own _ (c .before .before .step4 .given .1)))
-
-returns-2 : tie.Need-returns-2
-returns-2 c =
-    let at = c .before .before .before .before in
-    let s = at .before .before in
-    λ offices holds.
-    judged-propose (lent s) offices _ _ holds (s .pre .1 .within) _ _ (at .before .unchanged .ensures) _ _ (at .if1 .left) (counted at) _ _ _
-    (c .before .before .step .given .1) (c .propose .ensures)
-
-returns-3 : tie.Need-returns-3
-returns-3 c =
-    let at = c .before .before .before .before in
-    let s = at .before .before in
-    λ offices holds.
-    judged-vote (lent s) offices _ _ holds (s .pre .1 .within) _ _ (at .before .unchanged .ensures) _ _ (at .if1 .left) (counted at) _ _
-    (c .before .before .step2 .given .1) (c .vote .ensures)
-
-returns-4 : tie.Need-returns-4
-returns-4 c =
-    let at = c .before .before .before .before in
-    let s = at .before .before in
-    λ offices holds.
-    judged-register (lent s) offices _ _ holds (s .pre .1 .within) _ _ (at .before .unchanged .ensures) _ _ (at .if1 .left) (counted at) _ _
-    (c .before .before .step3 .given .1) (c .register .ensures)
-
-returns-5 : tie.Need-returns-5
-unfolding actorOf
-returns-5 c =
-    let at = c .before .before .before .before .before in
-    let s = at .before .before in
-    let named = c .before .before .before .step4 .given .1 in
-    λ offices holds.
-    judged-finalise (lent s) offices _ _ holds (s .pre .1 .within) _ _ (at .before .unchanged .ensures) _ _ (at .if1 .left) (counted at) _ _
-    (subst (λ (x : Step). actorOf x .0 < 32 → s .args .actor .at ≡ actorOf x .0) named (s .pre .1 .own)) named (c .finalise .ensures)
-
-returns-6 : tie.Need-returns-6
-returns-6 c =
-    let at = c .before .before .before .before in
-    let s = at .before .before in
-    λ offices holds.
-    judged-deliver (lent s) offices _ _ holds (s .pre .1 .within) _ _ (at .before .unchanged .ensures) _ _ (at .if1 .left) (counted at) _ _
-    (c .before .before .step5 .given .1) (c .deliver .ensures)
-
-returns-7 : tie.Need-returns-7
-returns-7 c =
-    let at = c .before .before .before .before in
-    let s = at .before .before in
-    λ offices holds.
-    judged-bad-send (lent s) offices _ _ holds (s .pre .1 .within) _ _ (at .before .unchanged .ensures) _ _ (at .if1 .left) (counted at) _ _ _ _
-    (c .before .before .step6 .given .1) (c .bad-send .ensures)
-
-returns-8 : tie.Need-returns-8
-returns-8 c =
-    let at = c .before .before .before .before in
-    let s = at .before .before in
-    λ offices holds.
-    judged-draft (lent s) offices _ _ holds (s .pre .1 .within) _ _ (at .before .unchanged .ensures) _ _ (at .if1 .left) (counted at) _ _ _
-    (c .before .before .step7 .given .1) (c .draft .ensures)
-
-returns-9 : tie.Need-returns-9
-returns-9 c =
-    let at = c .before .before .before in
-    let s = at .before .before in
-    λ offices holds.
-    judged-advance (lent s) offices _ _ holds (s .pre .1 .within) _ _ (at .before .unchanged .ensures) _ _ (at .if1 .left) (counted at)
-    (c .before .enum-told .given .1) (c .advance .ensures)
 
 pub judge-spec : {M : Type 1} → statement M
 judge-spec =
@@ -114,7 +47,7 @@ judge-spec =
     (tie.spec
     (λ c κs. search needs)
     (λ c κs. search needs)
-    returns
+    (λ c. promised-unfit (lent (c .before .before .before)) _ _ _ _ (c .before .before .unchanged .ensures) _ _ (c .before .if1 .taken) (c .refused .ensures))
     (λ c. search needs)
     (λ c κs. counted (c .before .before .before))
     (λ c. search needs)
@@ -131,11 +64,27 @@ judge-spec =
     (λ c κs. counted (c .before .before .before))
     (λ c. search needs)
     (λ c κs. counted (c .before .before))
-    returns-2
-    returns-3
-    returns-4
-    returns-5
-    returns-6
-    returns-7
-    returns-8
-    returns-9)
+    (λ c.
+    arm (c .before .before .before .before) _ _ (c .before .before .step .given .1)
+    (λ o. c .propose .ensures ∙ lent-propose _ o _ _ _ _))
+    (λ c.
+    arm (c .before .before .before .before) _ _ (c .before .before .step2 .given .1)
+    (λ o. c .vote .ensures ∙ lent-vote _ o _ _ _))
+    (λ c.
+    arm (c .before .before .before .before) _ _ (c .before .before .step3 .given .1)
+    (λ o. c .register .ensures ∙ lent-register _ o _ _ _))
+    (λ c.
+    arm (c .before .before .before .before .before) _ _ (c .before .before .before .step4 .given .1)
+    (λ o. c .finalise .ensures ∙ lent-finalise _ o _ _ _))
+    (λ c.
+    arm (c .before .before .before .before) _ _ (c .before .before .step5 .given .1)
+    (λ o. c .deliver .ensures ∙ lent-deliver _ o _ _ _))
+    (λ c.
+    arm (c .before .before .before .before) _ _ (c .before .before .step6 .given .1)
+    (λ o. c .bad-send .ensures ∙ lent-bad-send _ o _ _ _ _ _))
+    (λ c.
+    arm (c .before .before .before .before) _ _ (c .before .before .step7 .given .1)
+    (λ o. c .draft .ensures ∙ lent-draft _ o _ _ _ _))
+    (λ c.
+    arm (c .before .before .before) _ _ (c .before .enum-told .given .1)
+    (λ o. c .advance .ensures ∙ lent-advance _ o _)))

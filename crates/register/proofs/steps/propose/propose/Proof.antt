@@ -9,8 +9,8 @@ use Rattle.words.specs.Refusals.{Refusal, first, until, since}
 use Rattle.words.proofs.Refusals.{positive}
 use Rattle.register.specs.Lent.{lentBook, blocks, messages}
 use Rattle.register.specs.Effects.{sentStage}
-use Rattle.register.specs.Steps.{propose}
-use Rattle.register.specs.Changes.{proposeChange}
+use Rattle.register.specs.Steps.{propose, ruleOf}
+use Rattle.register.specs.Changes.{entriesOf}
 use Rattle.register.proofs.Answering.{answers, early, late, longest-searched, refuses, accepts}
 use Rattle.register.proofs.steps.propose.propose.Statement.{statement}
 use Rattle.register.proofs.steps.propose.propose.Tie as tie
@@ -40,7 +40,7 @@ unfolding propose since choose
 none c = past (c .before .before .before .before .before) 0 (search answers depth 4)
 
 pub propose-spec : {M : Type 1} → statement M
-unfolding proposeChange propose since choose sentStage
+unfolding ruleOf entriesOf propose since choose sentStage
 propose-spec =
     tie.close
     (tie.spec

@@ -6,7 +6,7 @@ use native.Mathlib.Omega.{arith}
 use Rattle.register.specs.Types.{Step, Book}
 use Rattle.register.specs.Lent.{lentBook, noBlocks, messages}
 use Rattle.register.specs.Steps.{register, ruleOf}
-use Rattle.register.specs.Changes.{registerChange}
+use Rattle.register.specs.Changes.{entriesOf}
 use Rattle.register.proofs.Accepted.{Accepted}
 use Rattle.register.proofs.Answering.{refuses, accepts, accepted-by}
 use Rattle.register.proofs.steps.register.register.Statement.{statement}
@@ -31,7 +31,7 @@ known c =
     (c .if1 .left)
 
 pub register-spec : {M : Type 1} → statement M
-unfolding registerChange register
+unfolding ruleOf entriesOf register
 register-spec =
     tie.close
     (tie.spec

@@ -7,7 +7,7 @@ use Rattle.register.specs.Types.{Step, Book}
 use Rattle.register.specs.Lent.{lentBook, blocks, messages}
 use Rattle.register.specs.Effects.{sentStage}
 use Rattle.register.specs.Steps.{vote, ruleOf}
-use Rattle.register.specs.Changes.{voteChange}
+use Rattle.register.specs.Changes.{entriesOf}
 use Rattle.register.proofs.Accepted.{Accepted}
 use Rattle.register.proofs.Answering.{refuses, accepts, accepted-by}
 use Rattle.register.proofs.steps.vote.vote.Statement.{statement}
@@ -36,7 +36,7 @@ abbrev before : tie.After-accepted → tie.Else1
 before c = c .before .before .before .before .before .before .before .before .before
 
 pub vote-spec : {M : Type 1} → statement M
-unfolding voteChange vote sentStage
+unfolding ruleOf entriesOf vote sentStage
 vote-spec =
     tie.close
     (tie.spec

@@ -1,7 +1,7 @@
 -- `Register::run`: after i turns what is held is the book, the answers and what is known after the first i steps.
 use borrow.Author.Needs.{needs}
 use Prim.Native.Nat.{_-_, _<_, _≤_, min}
-use mathlib.Core.Path.{_≡_, refl}
+use mathlib.Core.Path.{_≡_, refl, subst⁻¹}
 use native.Mathlib.Omega.{arith}
 use lib.ListN.{length, getD}
 use Rattle.register.specs.Types.{Step, Actor}
@@ -10,9 +10,9 @@ use Rattle.register.specs.Views.{stage, signed, notarised}
 use Rattle.register.specs.Chains.{chain, chainNotarised}
 use Rattle.register.specs.Fitness.{fit}
 use Rattle.register.specs.Tables.{stateOf}
-use Rattle.register.specs.Changes.{written, CarriesOut}
-use Rattle.register.specs.Settled.{Acts}
-use Rattle.register.proofs.Settling.{acts}
+use Rattle.register.proofs.Settling.{Acts, acts}
+use Rattle.register.proofs.Writing.{written}
+use Rattle.register.proofs.Carrying.{CarriesOut, carries}
 use Rattle.register.proofs.Running.{Held, held-none, held-next, held-counts, held-all}
 use Rattle.register.proofs.table.Register.run.Statement.{statement}
 use Rattle.register.proofs.table.Register.run.Tie as tie
@@ -56,7 +56,7 @@ judge-requires : tie.Need-judge-requires Inv-loop μ-loop
 unfolding chainNotarised notarised signed stage chain
 judge-requires c κs =
     let a = acting (c .before .before .before .before .before .before .before .before .before .before .before) in
-    (held-counts (c .before .before .before .before .before .before .before .before .before .before .before .before .before .before .before .before .before .loop .inv .1), record { within = a .within; own = a .own; base = a .base })
+    (held-counts (c .before .before .before .before .before .before .before .before .before .before .before .before .before .before .before .before .before .loop .inv .1), a .base)
 
 -- the turn in which a step is judged
 abbrev turn : tie.After-judge Inv-loop μ-loop → tie.In-loop Inv-loop μ-loop
@@ -65,7 +65,10 @@ turn c = c .before .before .before .before .before .before .before .before .befo
 -- the change carries the step out
 carried : (c : tie.After-judge Inv-loop μ-loop)
     → CarriesOut (turn c .before .before .fits2 .result) (turn c .before .loop .book) (step (turn c)) (c .judge .result)
-carried c = c .judge .ensures (turn c .before .loop .book .offices) refl
+carried c =
+    let a = acting (c .before .before .before .before .before .before .before .before .before .before .before .before) in
+    subst⁻¹ (CarriesOut _ (turn c .before .loop .book) (step (turn c))) (c .judge .ensures (turn c .before .loop .book .offices) refl)
+    (carries _ _ (a .within) _ _ (held-counts (turn c .before .loop .inv .1)) (a .own))
 
 loop-again : tie.Need-loop-again Inv-loop μ-loop
 unfolding written
