@@ -1,19 +1,19 @@
 -- The change of a step carries the step out: what is written and answered is what the rule gives.
 use Prim.Native.Nat.{ℕ, _<_}
-use mathlib.Core.Path.{_≡_, refl, ap, _∙_}
+use mathlib.Core.Path.{_≡_, refl, ap, _∙_, subst⁻¹}
 use mathlib.Core.Bool.{Bool, true, false}
 use native.Mathlib.Omega.{arith}
 use borrow.Author.Tests.{eqb-true}
 use lib.Dec.{eqb, leb}
 use Rattle.words.specs.Tests.{choose}
 use Rattle.words.specs.Refusals.{first}
-use Rattle.register.specs.Types.{Step, Header, OfficeState, Book, Change}
-use Rattle.register.specs.Books.{block}
+use Rattle.register.specs.Types.{Step, Header, OfficeState, Book, Scalars, Change}
+use Rattle.register.specs.Books.{block, scalarsOf}
 use Rattle.register.specs.Tables.{stateOf, parentOf, named, aboutOf}
 use Rattle.register.specs.Refusals.{blocksFull}
 use Rattle.register.specs.Effects.{withState, finalising}
 use Rattle.register.specs.Steps.{Outcome, refusal, judged, ruleOf, propose, vote, register, finalise, deliver, badSend, draft, advance}
-use Rattle.register.specs.Lent.{Counts}
+use Rattle.register.specs.Lent.{Counts, readBook}
 use Rattle.register.specs.Changes.{unchangedOf, refusing, accepting, naming, holding, entriesOf, changeBy, changeOf}
 use Rattle.register.specs.Settled.{actorOf}
 use Rattle.register.proofs.Accepted.{Accepted, accepted, trusted-below}
@@ -125,9 +125,16 @@ module _ (r : Book) (at : ℕ) (within : at < 32) where
     carries-by step k false own is some = refuses true step k is some
 
   -- a step of any book
-  pub carries : (fits : Bool) (step : Step)
+  carries : (fits : Bool) (step : Step)
       → (fits ≡ true → Counts (r .n) (r .length) (r .epoch .0) (r .last .0) (r .count))
       → (actorOf step .0 < 32 → at ≡ actorOf step .0) → CarriesOut fits r step (changeOf fits r at step)
   unfolding changeOf changeBy choose
   carries true step counts own = carries-by (counts refl) step _ _ own refl refl
   carries false step counts own = refuses false step 5 (unfold refusal first choose in refl) refl
+
+  -- the same of the change by single numbers that were read from the book, and by its columns
+  pub carries-read : (fits : Bool) (step : Step) (x : Change) (s : Scalars) → s ≡ scalarsOf r → x ≡ changeOf fits (readBook s r) at step
+      → (fits ≡ true → Counts (r .n) (r .length) (r .epoch .0) (r .last .0) (r .count))
+      → (actorOf step .0 < 32 → at ≡ actorOf step .0) → CarriesOut fits r step x
+  carries-read fits step x s read is counts own =
+      subst⁻¹ (CarriesOut fits r step) (rw read at is) (carries fits step counts own)

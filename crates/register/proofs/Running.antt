@@ -157,13 +157,10 @@ held-none b steps fits is sizes =
     record { register = refl; refusals = refl; values = refl; fit = sym is; sizes = sizes; settled = none-settled b }
 
 -- after the last the batch has been run
-pub held-all : (r : Register) {steps : List Step} {i : ℕ} {b book : Book} {ks vs : List ℕ} {fits : Bool} {settled : ℕ}
-    → Held (registerOf b) steps i book ks vs fits settled → b ≡ bookOf r
-    → record { register = registerOf book; refusals = ks; values = vs } ≡ ran r (take i steps)
+pub held-all : {r : Register} {steps : List Step} {i : ℕ} {book : Book} {ks vs : List ℕ} {fits : Bool} {settled : ℕ}
+    → Held r steps i book ks vs fits settled → record { register = registerOf book; refusals = ks; values = vs } ≡ ran r (take i steps)
 unfolding ran
-held-all r {steps} {i} held is =
-    (λ j. record { register = held .register j; refusals = held .refusals j; values = held .values j })
-    ∙ ap (λ (x : Register). ran x (take i steps)) (ap registerOf is ∙ register-book r)
+held-all held = λ j. record { register = held .register j; refusals = held .refusals j; values = held .values j }
 
 -- a batch of one step
 pub ran-one : (r : Register) (step : Step) (given : Ran) → given ≡ ran r (take 1 (replicate 256 step))

@@ -3,7 +3,7 @@
 use Prim.Native.Nat.{ℕ}
 use mathlib.Core.Bool.{Bool}
 use mathlib.Core.List.{List, map}
-use Rattle.register.specs.Types.{Office, Epoch, Block, OfficeState, Register, Book}
+use Rattle.register.specs.Types.{Office, Epoch, Block, OfficeState, Register, Book, Scalars}
 
 -- a number as one of the sorts, and back
 abbrev pub office : ℕ → Office
@@ -66,6 +66,19 @@ registerOf b =
       places = b .places;
       acted = b .acted;
       offices = b .offices;
+    }
+
+-- a book's single numbers
+abbrev pub scalarsOf : Book → Scalars
+scalarsOf b =
+    record {
+      n = b .n;
+      trust = b .trust;
+      length = b .length;
+      epoch = b .epoch;
+      last = b .last;
+      count = b .count;
+      acted = b .acted;
     }
 
 -- the table of blocks: the last block, and each block's parent, epoch and payload

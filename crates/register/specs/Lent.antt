@@ -56,6 +56,12 @@ wholeBook s leaders blocks messages offices =
 abbrev pub lentBook : Scalars → (leaders : List ℕ) → BlockColumns → MessageColumns → Book
 lentBook s leaders blocks messages = wholeBook s leaders blocks messages []
 
+-- a book by its own columns, with single numbers as they were read
+abbrev pub readBook : Scalars → Book → Book
+readBook s r =
+    wholeBook s (r .leaders) (blocks (r .parents) (r .epochs) (r .payloads)) (messages (r .votes) (r .signers) (r .about) (r .places))
+    (r .offices)
+
 -- single numbers that are in their ranges
 pub record Counts (n epochs epoch last count : ℕ) : Type 0 where
   pub some : 1 ≤ n

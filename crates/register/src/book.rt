@@ -12,6 +12,7 @@ ghost use Rattle.register.specs.Books.{
   epochNumber,
   bookOf,
   registerOf,
+  scalarsOf,
 };
 ghost use Rattle.register.specs.Promises.{Sizes};
 use crate::columns::About;
@@ -46,6 +47,17 @@ pub struct Book {
     pub places: Places,
     pub acted: u32,
     pub offices: [OfficeState; 32],
+}
+
+// The single numbers of a book.
+pub struct Scalars {
+    pub n: u8,
+    pub trust: u32,
+    pub length: u16,
+    pub epoch: Epoch,
+    pub last: Block,
+    pub count: u16,
+    pub acted: u32,
 }
 
 // The numbers of the leaders.
@@ -226,6 +238,23 @@ impl Register {
 }
 
 impl Book {
+    // The book's single numbers.
+    pub(crate) fn scalars(self) -> Scalars
+        ensures { λ r. ⌜ r ≡ scalarsOf self ⌝ }
+    {
+        let epoch = self.epoch;
+        let last = self.last;
+        Scalars {
+            n: self.n,
+            trust: self.trust,
+            length: self.length,
+            epoch,
+            last,
+            count: self.count,
+            acted: self.acted,
+        }
+    }
+
     // The register whose book this is.
     pub(crate) fn register(self) -> Register
         ensures { λ r. ⌜ r ≡ registerOf self ⌝ }

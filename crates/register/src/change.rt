@@ -19,17 +19,6 @@ use crate::sorts::Office;
 use crate::table::Header;
 use crate::table::OfficeState;
 
-// The single numbers of a book.
-pub struct Scalars {
-    pub n: u8,
-    pub trust: u32,
-    pub length: u16,
-    pub epoch: Epoch,
-    pub last: Block,
-    pub count: u16,
-    pub acted: u32,
-}
-
 // The current epoch, and the offices that have acted in it.
 pub struct Clock {
     pub epoch: Epoch,

@@ -2,7 +2,6 @@
 ghost use mathlib.Core.Path.{_≡_};
 ghost use mathlib.Core.Bool.{not};
 ghost use Prim.Native.Nat.{_+_, _≤_};
-ghost use mathlib.Core.List.{[]};
 ghost use lib.Dec.{ltb};
 ghost use lib.ListN.{getD};
 ghost use Rattle.words.specs.Lent.{lent};
@@ -11,8 +10,8 @@ ghost use Rattle.tables.specs.Blocks.{trustedIn};
 ghost use Rattle.register.specs.Books.{bookOf};
 ghost use Rattle.register.specs.Tables.{stateIn};
 ghost use Rattle.register.specs.Fitness.{countsFit, blockFits, messageFits, stateFits, fit};
-ghost use Rattle.register.specs.Lent.{wholeBook, blocks, messages};
-use crate::change::Scalars;
+use crate::book::Book;
+use crate::book::Scalars;
 use crate::columns::About;
 use crate::columns::Epochs;
 use crate::columns::Leaders;
@@ -117,30 +116,23 @@ fn offices_fit(offices: [OfficeState; 32], n: u8, trust: u32, last: u8) -> bool
     fits
 }
 
-// The book of those single numbers and tables is fit; payloads, places and kinds of messages are no matter. The counts come first, so that no table is
-// read past its end.
-pub(crate) fn fits<'a>(
-    scalars: Scalars,
-    leaders: &'a Leaders,
-    parents: &'a Parents,
-    epochs: &'a Epochs,
-    signers: &'a Signers,
-    about: &'a About,
-    offices: [OfficeState; 32],
-) -> bool
-    ensures { λ r. ⌜ r ≡ fit
-        (wholeBook scalars (lent leaders) (blocks (lent parents) (lent epochs) [])
-        (messages [] (lent signers) (lent about) []) offices) ⌝ }
-{
-    let n = scalars.n;
-    let last = scalars.last.0;
-    if !counts_fit(scalars) {
-        return false;
+impl Book {
+    // Every number of the book is in its range; payloads, places and kinds of messages are no matter. The counts come first, so that no table is
+    // read past its end.
+    pub(crate) fn is_fit(self) -> bool
+        ensures { λ r. ⌜ r ≡ fit self ⌝ }
+    {
+        let n = self.n;
+        let last = self.last.0;
+        if !counts_fit(self.scalars()) {
+            return false;
+        }
+        let offices = self.offices;
+        leaders_fit(&self.leaders, self.length as usize, n)
+            & blocks_fit(&self.parents, &self.epochs, last)
+            & messages_fit(&self.signers, &self.about, self.count as usize, n, last)
+            & offices_fit(offices, n, self.trust, last)
     }
-    leaders_fit(leaders, scalars.length as usize, n)
-        & blocks_fit(parents, epochs, last)
-        & messages_fit(signers, about, scalars.count as usize, n, last)
-        & offices_fit(offices, n, scalars.trust, last)
 }
 
 impl Register {
@@ -148,25 +140,6 @@ impl Register {
     pub fn is_fit(self) -> bool
         ensures { λ r. ⌜ r ≡ fit (bookOf self) ⌝ }
     {
-        let book = self.book();
-        let scalars = Scalars {
-            n: book.n,
-            trust: book.trust,
-            length: book.length,
-            epoch: book.epoch,
-            last: book.last,
-            count: book.count,
-            acted: book.acted,
-        };
-        let offices = book.offices;
-        fits(
-            scalars,
-            &book.leaders,
-            &book.parents,
-            &book.epochs,
-            &book.signers,
-            &book.about,
-            offices,
-        )
+        self.book().is_fit()
     }
 }

@@ -1,17 +1,19 @@
 // Running steps: a batch, one, or one of a kind.
 ghost use mathlib.Core.Path.{_≡_};
-ghost use Prim.Native.Nat.{min};
+ghost use Prim.Native.Nat.{_≤_, min};
 ghost use lib.ListN.{take};
 ghost use Rattle.register.specs.Limits.{batch};
+ghost use Rattle.register.specs.Books.{registerOf};
+ghost use Rattle.register.specs.Fitness.{fit};
 ghost use Rattle.register.specs.Steps.{stepRule};
 ghost use Rattle.register.specs.Runs.{ran};
+ghost use Rattle.register.specs.Promises.{Sizes};
 use crate::actor::Actor;
 use crate::actor::actor_of;
 use crate::actor::place_of;
 use crate::actor::settled_after;
 use crate::actor::settled_base;
-use crate::change::Scalars;
-use crate::fitness::fits;
+use crate::book::Book;
 use crate::sorts::Block;
 use crate::sorts::Epoch;
 use crate::sorts::Kind;
@@ -36,98 +38,79 @@ fn in_batch(count: usize) -> usize
     if count < BATCH { count } else { BATCH }
 }
 
-impl Register {
-    // Runs the first steps of a batch. The register's fitness is tested once, since steps keep it, and its book is changed in place, so that a step
-    // costs no copy of it.
-    pub fn run(self, steps: Batch, count: usize) -> Ran
-        ensures { λ r. ⌜ r ≡ ran self (take (min count batch) steps) ⌝ }
+impl Book {
+    // Runs the first steps of a batch. The book has been found fit, or not, which no step alters. It is changed in place, so that a step costs no copy
+    // of it.
+    fn run(mut self, fits: bool, steps: Batch, limit: usize) -> Ran
+        requires { ⌜ (fits ≡ fit self) × Sizes self × (limit ≤ batch) ⌝ }
+        ensures { λ r. ⌜ r ≡ ran (registerOf self) (take limit steps) ⌝ }
     {
-        let limit = in_batch(count);
-        let mut refusals = [0u8; 256];
-        let mut values = [0u16; 256];
-        let mut book = self.book();
-        let start = Scalars {
-            n: book.n,
-            trust: book.trust,
-            length: book.length,
-            epoch: book.epoch,
-            last: book.last,
-            count: book.count,
-            acted: book.acted,
-        };
-        let offices = book.offices;
-        let fit = fits(
-            start,
-            &book.leaders,
-            &book.parents,
-            &book.epochs,
-            &book.signers,
-            &book.about,
-            offices,
-        );
+        let mut refusals = [0u8; BATCH];
+        let mut values = [0u16; BATCH];
         let mut settled = 0;
         let mut i = 0;
         while i < limit {
             let step = steps[i];
             let office = actor_of(step);
             let at = place_of(office);
-            let state = book.offices[at];
+            let state = self.offices[at];
             let actor = Actor {
                 at,
                 state,
                 base: settled_base(state, settled, office),
             };
-            let scalars = Scalars {
-                n: book.n,
-                trust: book.trust,
-                length: book.length,
-                epoch: book.epoch,
-                last: book.last,
-                count: book.count,
-                acted: book.acted,
-            };
             let c = judge(
-                fit,
-                scalars,
-                &book.leaders,
-                &book.parents,
-                &book.epochs,
-                &book.payloads,
-                &book.votes,
-                &book.signers,
-                &book.about,
-                &book.places,
+                fits,
+                self.scalars(),
+                &self.leaders,
+                &self.parents,
+                &self.epochs,
+                &self.payloads,
+                &self.votes,
+                &self.signers,
+                &self.about,
+                &self.places,
                 actor,
                 step,
             );
-            book.epoch.0 = c.clock.epoch.0;
-            book.acted = c.clock.acted;
-            book.last.0 = c.block.last.0;
+            self.epoch.0 = c.clock.epoch.0;
+            self.acted = c.clock.acted;
+            self.last.0 = c.block.last.0;
             let b = c.block.at;
-            book.parents[b] = c.block.header.parent.0;
-            book.epochs[b] = c.block.header.epoch.0;
-            book.payloads[b] = c.block.header.payload;
-            book.count = c.message.count;
+            self.parents[b] = c.block.header.parent.0;
+            self.epochs[b] = c.block.header.epoch.0;
+            self.payloads[b] = c.block.header.payload;
+            self.count = c.message.count;
             let m = c.message.at;
-            book.votes[m] = c.message.vote;
-            book.signers[m] = c.message.signer.0;
-            book.about[m] = c.message.about.0;
-            book.places[m] = c.message.place;
+            self.votes[m] = c.message.vote;
+            self.signers[m] = c.message.signer.0;
+            self.about[m] = c.message.about.0;
+            self.places[m] = c.message.place;
             let p = c.place.at;
-            book.places[p] = c.place.place;
+            self.places[p] = c.place.place;
             let q = c.office.at;
             let held = c.office.state;
-            book.offices[q] = held;
+            self.offices[q] = held;
             settled = settled_after(settled, office, c.answer.refusal);
             refusals[i] = c.answer.refusal;
             values[i] = c.answer.value;
             i += 1;
         }
         Ran {
-            register: book.register(),
+            register: self.register(),
             refusals,
             values,
         }
+    }
+}
+
+impl Register {
+    // Runs the first steps of a batch. The register's fitness is tested once, since steps keep it.
+    pub fn run(self, steps: Batch, count: usize) -> Ran
+        ensures { λ r. ⌜ r ≡ ran self (take (min count batch) steps) ⌝ }
+    {
+        let book = self.book();
+        book.run(book.is_fit(), steps, in_batch(count))
     }
 }
 

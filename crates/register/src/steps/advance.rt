@@ -4,9 +4,9 @@ ghost use mathlib.Core.List.{[]};
 ghost use Rattle.register.specs.Types.{Step};
 ghost use Rattle.register.specs.Lent.{Counted, lentBook, noBlocks, noMessages};
 ghost use Rattle.register.specs.Changes.{changeBy};
+use crate::book::Scalars;
 use crate::change::Change;
 use crate::change::Clock;
-use crate::change::Scalars;
 use crate::refusal;
 use crate::sorts::Epoch;
 

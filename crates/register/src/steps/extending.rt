@@ -8,7 +8,7 @@ ghost use Rattle.words.specs.Refusals.{_⇒_, first};
 ghost use Rattle.tables.specs.Blocks.{trustedIn, epochIn};
 ghost use Rattle.register.specs.Refusals.{leads, notLongest};
 ghost use Rattle.register.specs.Lent.{Counted, lentBook, blocks, noBlocks, messages, noMessages};
-use crate::change::Scalars;
+use crate::book::Scalars;
 use crate::columns::About;
 use crate::columns::Epochs;
 use crate::columns::Leaders;

@@ -7,6 +7,7 @@ ghost use Rattle.register.specs.Lent.{Counted, lentBook, wholeBook, bloc
 ghost use Rattle.register.specs.Changes.{unchangedOf, ChangeFor};
 ghost use Rattle.register.specs.Settled.{Base, actorOf};
 use crate::actor::Actor;
+use crate::book::Scalars;
 use crate::change::Answer;
 use crate::change::BlockEntry;
 use crate::change::Change;
@@ -14,7 +15,6 @@ use crate::change::Clock;
 use crate::change::MessageEntry;
 use crate::change::OfficeEntry;
 use crate::change::PlaceEntry;
-use crate::change::Scalars;
 use crate::columns::About;
 use crate::columns::Epochs;
 use crate::columns::Leaders;

@@ -9,7 +9,7 @@ ghost use Rattle.register.specs.Views.{stage};
 ghost use Rattle.register.specs.Refusals.{entered};
 ghost use Rattle.register.specs.Effects.{sentPlace};
 ghost use Rattle.register.specs.Lent.{Counted, lentBook, noBlocks, messages, noMessages};
-use crate::change::Scalars;
+use crate::book::Scalars;
 use crate::columns::About;
 use crate::columns::Places;
 use crate::columns::Signers;
