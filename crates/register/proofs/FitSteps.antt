@@ -21,7 +21,7 @@ use Rattle.register.proofs.Chains.{parent-le}
 use Rattle.register.proofs.Accepted.{Accepted, trusted-below}
 use Rattle.register.proofs.Judging.{judged-has}
 use Rattle.register.proofs.Naming.{named-keeps, named-has, named-within, block-room}
-use Rattle.register.proofs.Ranges.{Ranges, ranges, ranges-fit}
+use Rattle.register.proofs.Ranges.{Ranges, recount, ranges, ranges-fit}
 
 -- An entry of a table after a store at place i is the new one, or as it was, or the default past the table's end. What holds of each holds of it.
 stored : {A : Type 0} (P : A → Type 0) (l : List A) (i : ℕ) (v : A) (j : ℕ) (d : A)
@@ -44,16 +44,7 @@ module _ {r : Book} (z : Ranges r) where
       let c = z .counts in
       let s = z .sizes in
       record {
-        counts =
-            record {
-              some = c .some;
-              offices = c .offices;
-              schedule = c .schedule;
-              first = first;
-              current = now;
-              blocks = c .blocks;
-              messages = c .messages;
-            };
+        counts = recount c first now (c .blocks) (c .messages);
         leaders = z .leaders;
         blocks = z .blocks;
         messages = z .messages;
@@ -95,16 +86,7 @@ module _ {r : Book} (z : Ranges r) where
       let c = z .counts in
       let s = z .sizes in
       record {
-        counts =
-            record {
-              some = c .some;
-              offices = c .offices;
-              schedule = c .schedule;
-              first = c .first;
-              current = c .current;
-              blocks = omega arith;
-              messages = c .messages;
-            };
+        counts = recount c (c .first) (c .current) (omega arith) (c .messages);
         leaders = z .leaders;
         blocks = λ k l. (
           stored (λ (x : ℕ). x < k + 1) (r .parents) b (new .parent .0) (k + 1) 0 (λ h. omega arith) (λ h. omega arith)
@@ -132,16 +114,7 @@ module _ {r : Book} (z : Ranges r) where
       let c = z .counts in
       let s = z .sizes in
       record {
-        counts =
-            record {
-              some = c .some;
-              offices = c .offices;
-              schedule = c .schedule;
-              first = c .first;
-              current = c .current;
-              blocks = c .blocks;
-              messages = omega arith;
-            };
+        counts = recount c (c .first) (c .current) (c .blocks) (omega arith);
         leaders = z .leaders;
         blocks = z .blocks;
         messages = λ x l. (

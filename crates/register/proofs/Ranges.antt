@@ -51,6 +51,20 @@ counts n epochs epoch last count h =
       messages = leb-true count 1024 (all .1 .1 .1 .1 .0);
     }
 
+-- they stay so with another epoch and other counts in their ranges
+pub recount : {n epochs e b m epoch last count : ℕ} → Counts n epochs e b m → 1 ≤ epoch → epoch ≤ epochs → last ≤ 255 → count ≤ 1024
+    → Counts n epochs epoch last count
+recount c first current blocks messages =
+    record {
+      some = c .some;
+      offices = c .offices;
+      schedule = c .schedule;
+      first = first;
+      current = current;
+      blocks = blocks;
+      messages = messages;
+    }
+
 module _ {r : Book} where
   -- the numbers of a fit book are in their ranges
   pub ranges : Sizes r → fit r ≡ true → Ranges r

@@ -1,18 +1,16 @@
 -- `about_numbers`: after i turns the first i entries are copied.
 use borrow.Author.Needs.{needs}
 use native.Mathlib.Omega.{arith}
-use Prim.Native.Nat.{_≤_, _-_}
-use mathlib.Core.Path.{refl}
 use Rattle.register.specs.Books.{block, blockNumber}
-use Rattle.register.proofs.Copying.{Copied, copied-more, copied-all}
+use Rattle.register.proofs.Copying.{Copied, left, copied-none, copied-more, copied-all}
 use Rattle.register.proofs.book.about_numbers.Statement.{statement}
 use Rattle.register.proofs.book.about_numbers.Tie as tie
 
 abbrev Inv-loop : tie.InvT-loop
-Inv-loop typed numbers₀ i₀ numbers i = (i ≤ 1024) × Copied blockNumber typed numbers i
+Inv-loop typed numbers₀ i₀ numbers i = Copied blockNumber typed numbers i
 
 abbrev μ-loop : tie.MeasureT-loop
-μ-loop typed numbers₀ i₀ numbers i = 1024 - i
+μ-loop typed numbers₀ i₀ numbers i = left blockNumber typed i
 
 pub about-numbers-spec : {M : Type 1} → statement M
 about-numbers-spec =
@@ -20,10 +18,10 @@ about-numbers-spec =
     (tie.spec
     Inv-loop
     μ-loop
-    (λ c. (search needs, record { long = omega arith; same = refl }))
+    (λ c. copied-none _ _ _ (omega arith))
     (λ c. search needs)
     (λ c. search needs)
     (λ c. search needs)
     (λ c. search needs)
-    (λ c. (search needs, copied-more blockNumber _ (block 0) _ _ (search needs) (c .before .before .loop .inv .1)))
-    (λ c. (copied-all blockNumber _ _ _ (omega arith) (c .before .loop .inv .1), omega (arith, c .before .loop .inv .1 .long))))
+    (λ c. copied-more _ _ (block 0) (c .before .before .loop .inv) (search needs))
+    (λ c. (copied-all _ _ (c .before .loop .inv) (omega arith), omega (arith, c .before .loop .inv .long))))

@@ -1,18 +1,16 @@
 -- `epoch_numbers`: after i turns the first i entries are copied.
 use borrow.Author.Needs.{needs}
 use native.Mathlib.Omega.{arith}
-use Prim.Native.Nat.{_≤_, _-_}
-use mathlib.Core.Path.{refl}
 use Rattle.register.specs.Books.{epoch, epochNumber}
-use Rattle.register.proofs.Copying.{Copied, copied-more, copied-all}
+use Rattle.register.proofs.Copying.{Copied, left, copied-none, copied-more, copied-all}
 use Rattle.register.proofs.book.epoch_numbers.Statement.{statement}
 use Rattle.register.proofs.book.epoch_numbers.Tie as tie
 
 abbrev Inv-loop : tie.InvT-loop
-Inv-loop typed numbers₀ i₀ numbers i = (i ≤ 256) × Copied epochNumber typed numbers i
+Inv-loop typed numbers₀ i₀ numbers i = Copied epochNumber typed numbers i
 
 abbrev μ-loop : tie.MeasureT-loop
-μ-loop typed numbers₀ i₀ numbers i = 256 - i
+μ-loop typed numbers₀ i₀ numbers i = left epochNumber typed i
 
 pub epoch-numbers-spec : {M : Type 1} → statement M
 epoch-numbers-spec =
@@ -20,12 +18,12 @@ epoch-numbers-spec =
     (tie.spec
     Inv-loop
     μ-loop
-    (λ c. (search needs, record { long = omega arith; same = refl }))
+    (λ c. copied-none _ _ _ (omega arith))
     (λ c. search needs)
     (λ c. search needs)
     (λ c. search needs)
     (λ c. search needs)
     (λ c. search needs)
     (λ c. search needs)
-    (λ c. (search needs, copied-more epochNumber _ (epoch 0) _ _ (search needs) (c .before .before .loop .inv .1)))
-    (λ c. (copied-all epochNumber _ _ _ (omega arith) (c .before .loop .inv .1), omega (arith, c .before .loop .inv .1 .long))))
+    (λ c. copied-more _ _ (epoch 0) (c .before .before .loop .inv) (search needs))
+    (λ c. (copied-all _ _ (c .before .loop .inv) (omega arith), omega (arith, c .before .loop .inv .long))))
