@@ -21,7 +21,6 @@ use Rattle.register.specs.Chains.{chain, chainNotarised, longer, longest
 use Rattle.register.specs.Steps.{ruleOf}
 use Rattle.register.specs.Lent.{lentBook, blocks, messages}
 use Rattle.register.specs.Changes.{refusing, accepting, entriesOf, changeBy}
-use Rattle.register.proofs.Accepted.{Accepted, accepted}
 use Rattle.register.proofs.Searching.{signed-in, longest-by, notarised-above}
 
 -- 18, of a trusted office's view
@@ -120,7 +119,3 @@ module _ (c : Change) (r : Book) (step : Step) (k : ℕ) (found : k ≡ first (r
   pub accepts : k ≡ 0 → accepting (entriesOf c r step) (ruleOf r step .value) ≡ changeBy c r step
   unfolding changeBy choose
   accepts none = rw (← found, eq-eqb k 0 none)
-
--- and then what an accepted step's tests tell is known
-pub accepted-by : (r : Book) (step : Step) (k : ℕ) → k ≡ first (ruleOf r step .tests) → k ≡ 0 → Accepted r step
-accepted-by r step k found none = accepted r step (sym found ∙ none)

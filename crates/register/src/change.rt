@@ -1,7 +1,8 @@
 // What a step changes, as a small value: the answer, and one entry for each table with the numbers that stand beside the table. Where a step leaves a
 // table alone the entry is one that the table has already, so that a change is written to the book without a branch.
 ghost use mathlib.Core.Path.{_≡_};
-ghost use Prim.Native.Nat.{_<_};
+ghost use Prim.Native.Nat.{_≤_};
+ghost use Rattle.register.specs.Limits.{mostMessages};
 ghost use Rattle.register.specs.Changes.{
   refusing,
   accepting,
@@ -132,7 +133,7 @@ impl Change {
         about: Block,
         word: u64,
     ) -> Change
-        requires { ⌜ message .0 < 1024 ⌝ }
+        requires { ⌜ message .0 ≤ mostMessages ⌝ }
         ensures { λ r. ⌜ r ≡ sending self (message .0) vote signer about word ⌝ }
     {
         let at = message.0 as usize;

@@ -1,33 +1,20 @@
 -- `deliver` refuses what its tests refuse, and else moves the message.
 use borrow.Author.Needs.{needs}
-use mathlib.Core.Path.{_∙_}
-use mathlib.Core.List.{[]}
+use Prim.Native.Nat.{_<_}
+use mathlib.Core.Path.{sym, _∙_}
 use native.Mathlib.Omega.{arith}
-use Rattle.register.specs.Types.{Step, Book}
-use Rattle.register.specs.Lent.{lentBook, noBlocks, messages}
+use borrow.Author.Tests.{leb-false}
+use Rattle.words.proofs.Clearing.{clear}
 use Rattle.register.specs.Steps.{deliver, ruleOf}
 use Rattle.register.specs.Changes.{entriesOf}
-use Rattle.register.proofs.Accepted.{Accepted}
-use Rattle.register.proofs.Answering.{refuses, accepts, accepted-by}
+use Rattle.register.proofs.Answering.{refuses, accepts}
 use Rattle.register.proofs.steps.deliver.deliver.Statement.{statement}
 use Rattle.register.proofs.steps.deliver.deliver.Tie as tie
 
--- the book that is lent
-abbrev given : tie.Start → Book
-given s =
-    let a = s .args in
-    lentBook (a .scalars) [] noBlocks (messages [] [] [] (a .places .now))
-
--- and the step
-abbrev asked : tie.Start → Step
-asked s = Step.Deliver (s .args .message) (s .args .office)
-
--- what an accepted delivery's tests tell
-known : (c : tie.Else1) → Accepted (given (c .before .before)) (asked (c .before .before))
-unfolding ruleOf
-known c =
-    accepted-by (given (c .before .before)) (asked (c .before .before)) _ (c .before .deliver-refusal .ensures)
-    (c .if1 .left)
+-- the message has been sent, where nothing was refused
+sent : (c : tie.Else1) → c .before .before .args .message .0 < 1024
+unfolding deliver
+sent c = omega (arith, leb-false _ (c .before .before .args .message .0) (clear _ (sym (c .before .deliver-refusal .ensures) ∙ c .if1 .left) .1 .0))
 
 pub deliver-spec : {M : Type 1} → statement M
 unfolding ruleOf entriesOf deliver
@@ -39,7 +26,7 @@ deliver-spec =
     (λ c. c .refused .ensures ∙ refuses _ _ _ _ (c .before .before .deliver-refusal .ensures) (c .before .if1 .taken))
     (λ c. search needs)
     (λ c. search needs)
-    (λ c. omega (arith, known (c .before) .sent))
+    (λ c. sent (c .before))
     (λ c κs. search needs)
     (λ c κs. search needs)
     (λ c κs. search needs)

@@ -1,34 +1,20 @@
 -- `register` refuses what its tests refuse, and else moves the vote.
 use borrow.Author.Needs.{needs}
-use mathlib.Core.Path.{_∙_}
-use mathlib.Core.List.{[]}
+use Prim.Native.Nat.{_<_}
+use mathlib.Core.Path.{sym, _∙_}
 use native.Mathlib.Omega.{arith}
-use Rattle.register.specs.Types.{Step, Book}
-use Rattle.register.specs.Lent.{lentBook, noBlocks, messages}
+use borrow.Author.Tests.{leb-false}
+use Rattle.words.proofs.Clearing.{clear}
 use Rattle.register.specs.Steps.{register, ruleOf}
 use Rattle.register.specs.Changes.{entriesOf}
-use Rattle.register.proofs.Accepted.{Accepted}
-use Rattle.register.proofs.Answering.{refuses, accepts, accepted-by}
+use Rattle.register.proofs.Answering.{refuses, accepts}
 use Rattle.register.proofs.steps.register.register.Statement.{statement}
 use Rattle.register.proofs.steps.register.register.Tie as tie
 
--- the book that is lent
-abbrev given : tie.Start → Book
-given s =
-    let a = s .args in
-    lentBook (a .scalars) [] noBlocks
-    (messages (a .votes .now) (a .signers .now) (a .about .now) (a .places .now))
-
--- and the step
-abbrev asked : tie.Start → Step
-asked s = Step.Register (s .args .office) (s .args .message)
-
--- what an accepted register step's tests tell
-known : (c : tie.Else1) → Accepted (given (c .before .before)) (asked (c .before .before))
-unfolding ruleOf
-known c =
-    accepted-by (given (c .before .before)) (asked (c .before .before)) _ (c .before .register-refusal .ensures)
-    (c .if1 .left)
+-- the message has been sent, where nothing was refused
+sent : (c : tie.Else1) → c .before .before .args .message .0 < 1024
+unfolding register
+sent c = omega (arith, leb-false _ (c .before .before .args .message .0) (clear _ (sym (c .before .register-refusal .ensures) ∙ c .if1 .left) .1 .0))
 
 pub register-spec : {M : Type 1} → statement M
 unfolding ruleOf entriesOf register
@@ -40,7 +26,7 @@ register-spec =
     (λ c. c .refused .ensures ∙ refuses _ _ _ _ (c .before .before .register-refusal .ensures) (c .before .if1 .taken))
     (λ c. search needs)
     (λ c. search needs)
-    (λ c. omega (arith, known (c .before) .sent))
+    (λ c. sent (c .before))
     (λ c κs. search needs)
     (λ c κs. search needs)
     (λ c κs. search needs)
