@@ -68,7 +68,7 @@ module _ (parents epochs payloads : List ℕ) (last p e w b : ℕ) where
   pub found-room : b ≡ block-named → b ≤ 255 → both (ltb last block-named) (leb 255 last) ≡ false
   found-room i h = both-fails _ _ (λ needed. lt-leb 255 last (omega (arith, ltb-true last block-named needed)))
 
-pub ruleset answers = (turns, found-longest, found-least, found-less, found-either, found-full, found-room)
+pub ruleset answers = (turns, found-least, found-less, found-either, found-full, found-room)
 
 -- a refusal that the tests before the one numbered k gave is the list's
 pub early : (k : ℕ) (rs : List Refusal) (x : ℕ) → x ≡ first (until k rs) → (x ≡ 0 → ⊥) → x ≡ first rs

@@ -6,4 +6,4 @@ use Rattle.register.proofs.opening.closed.Tie as tie
 
 pub closed-spec : {M : Type 1} → statement M
 unfolding closed
-closed-spec = tie.close (tie.spec (λ c κs. search needs) (λ c κs. search needs) (λ c. cc))
+closed-spec = tie.close (tie.spec (λ c κs. search needs) (λ c κs. search needs) (λ c. rw (c .register .ensures, c .before .blank .ensures)))

@@ -13,4 +13,4 @@ fresh-book-spec =
     (λ c. search needs)
     (λ c κs. search needs)
     (λ c κs. search needs)
-    (λ c. cc))
+    (λ c. rw (c .blank .ensures, c .before .leader-table .ensures, c .before .before .below .ensures)))

@@ -14,4 +14,6 @@ register-spec =
     (λ c κs. search needs)
     (λ c κs. search needs)
     (λ c κs. search needs)
-    (λ c. cc))
+    (λ c.
+    rw (c .about-of .ensures, c .before .signers-of .ensures, c .before .before .epochs-of .ensures)
+    (rw (c .before .before .before .parents-of .ensures, c .before .before .before .before .leaders-of .ensures))))
