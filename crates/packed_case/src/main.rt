@@ -111,7 +111,7 @@ fn print_log(log: &[u8], items: usize) {
     let register = opening.register;
     named(b"opening ", opening.refusal as usize);
     named(b", offices ", register.n as usize);
-    named(b", epochs ", register.length as usize);
+    named(b", epochs ", register.scheduled as usize);
     named(b", then ", opening.next);
     print(b"\n");
     let mut at = opening.next;

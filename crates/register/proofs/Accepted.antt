@@ -71,7 +71,7 @@ Accepted r (Step.Finalise office newest) = Finalises r (office .0) (newest .0)
 Accepted r (Step.Deliver message office) = Placed r (office .0) (message .0) 1
 Accepted r (Step.BadSend sender kind signer about) = BadSends r kind (signer .0) (about .0)
 Accepted r (Step.Draft parent epoch w) = Drafts r (record { parent = parent; epoch = epoch; payload = w })
-Accepted r Step.Advance = r .epoch .0 < r .length
+Accepted r Step.Advance = r .epoch .0 < r .scheduled
 
 module _ (r : Book) where
   proposes : (office : Office) (parent : Block) (w : ℕ) → first (propose r office parent w .tests) ≡ 0

@@ -15,6 +15,7 @@ use Rattle.tables.specs.Blocks.{namedIn}
 use Rattle.tables.specs.Searches.{signedIn, viewIn, certifiedAbove, longestIn}
 use Rattle.tables.proofs.Scans.{named-most}
 use Rattle.register.specs.Types.{Step, Book, Change}
+use Rattle.register.specs.Books.{scalarsOf}
 use Rattle.register.specs.Tables.{trusted}
 use Rattle.register.specs.Views.{stage, signed, signers, notarised}
 use Rattle.register.specs.Chains.{chain, chainNotarised, longer, longest}
@@ -82,17 +83,7 @@ late k rs x y p e none f = f ∙ sym (first-late k rs p (sym e ∙ none))
 -- a book in what a search for longest chains reads
 abbrev pub searched : Book → Book
 searched r =
-    lentBook
-    (record {
-      n = r .n;
-      trust = r .trust;
-      length = r .length;
-      epoch = r .epoch;
-      last = r .last;
-      count = r .count;
-      acted = r .acted;
-    })
-    [] (blocks (r .parents) (r .epochs) []) (messages [] (r .signers) (r .about) (r .places))
+    lentBook (scalarsOf r) [] (blocks (r .parents) (r .epochs) []) (messages [] (r .signers) (r .about) (r .places))
 
 -- it has the same longest chains
 module _ (r : Book) (q : ℕ) where

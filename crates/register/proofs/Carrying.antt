@@ -13,7 +13,7 @@ use Rattle.register.specs.Tables.{stateOf, parentOf, named, aboutOf}
 use Rattle.register.specs.Refusals.{blocksFull}
 use Rattle.register.specs.Effects.{withState, finalising}
 use Rattle.register.specs.Steps.{Outcome, refusal, judged, ruleOf, propose, vote, register, finalise, deliver, badSend, draft, advance}
-use Rattle.register.specs.Lent.{Counts, readBook}
+use Rattle.register.specs.Lent.{Counted, readBook}
 use Rattle.register.specs.Changes.{unchangedOf, refusing, accepting, naming, holding, entriesOf, changeBy, changeOf}
 use Rattle.register.specs.Settled.{actorOf}
 use Rattle.register.proofs.Accepted.{Accepted, accepted, trusted-below}
@@ -62,7 +62,7 @@ module _ (r : Book) (at : ℕ) (within : at < 32) where
         within = record { block = w .block; message = w .message; place = w .place; office = w .office };
       }
 
-  module _ (c : Counts (r .n) (r .length) (r .epoch .0) (r .last .0) (r .count)) where
+  module _ (c : Counted (scalarsOf r)) where
     -- the entry of a block that is named
     named-entry : (new : Header) → blocksFull r new ≡ false → naming (same r at) (named r new) new .block .at < 256
     unfolding naming unchangedOf
@@ -126,7 +126,7 @@ module _ (r : Book) (at : ℕ) (within : at < 32) where
 
   -- a step of any book
   carries : (fits : Bool) (step : Step)
-      → (fits ≡ true → Counts (r .n) (r .length) (r .epoch .0) (r .last .0) (r .count))
+      → (fits ≡ true → Counted (scalarsOf r))
       → (actorOf step .0 < 32 → at ≡ actorOf step .0) → CarriesOut fits r step (changeOf fits r at step)
   unfolding changeOf changeBy choose
   carries true step counts own = carries-by (counts refl) step _ _ own refl refl
@@ -134,7 +134,7 @@ module _ (r : Book) (at : ℕ) (within : at < 32) where
 
   -- the same of the change by single numbers that were read from the book, and by its columns
   pub carries-read : (fits : Bool) (step : Step) (x : Change) (s : Scalars) → s ≡ scalarsOf r → x ≡ changeOf fits (readBook s r) at step
-      → (fits ≡ true → Counts (r .n) (r .length) (r .epoch .0) (r .last .0) (r .count))
+      → (fits ≡ true → Counted (scalarsOf r))
       → (actorOf step .0 < 32 → at ≡ actorOf step .0) → CarriesOut fits r step x
   carries-read fits step x s read is counts own =
       subst⁻¹ (CarriesOut fits r step) (rw read at is) (carries fits step counts own)

@@ -21,7 +21,7 @@ use Rattle.register.proofs.Chains.{parent-le}
 use Rattle.register.proofs.Accepted.{Accepted, trusted-below}
 use Rattle.register.proofs.Judging.{judged-has}
 use Rattle.register.proofs.Naming.{named-keeps, named-has, named-within, block-room}
-use Rattle.register.proofs.Ranges.{Ranges, recount, ranges, ranges-fit}
+use Rattle.register.proofs.Ranges.{Ranges, recounted, ranges, ranges-fit}
 
 -- An entry of a table after a store at place i is the new one, or as it was, or the default past the table's end. What holds of each holds of it.
 stored : {A : Type 0} (P : A → Type 0) (l : List A) (i : ℕ) (v : A) (j : ℕ) (d : A)
@@ -35,7 +35,7 @@ stored P (x ∷ xs) (suc i) v (suc j) d new none old =
 
 module _ {r : Book} (z : Ranges r) where
   -- a change of epoch, marks, places and what offices hold that keeps the ranges and the sizes
-  ranges-quiet : (e : Epoch) (a : ℕ) (places : List ℕ) (o : List OfficeState) → 1 ≤ e .0 → e .0 ≤ r .length
+  ranges-quiet : (e : Epoch) (a : ℕ) (places : List ℕ) (o : List OfficeState) → 1 ≤ e .0 → e .0 ≤ r .scheduled
       → ((q : ℕ) → q < r .n → trusted r q ≡ true → getD o q (record { finalised = block 0 }) .finalised .0 ≤ r .last .0)
       → Ranges
       (changed r e a (blocksOf r)
@@ -44,7 +44,7 @@ module _ {r : Book} (z : Ranges r) where
       let c = z .counts in
       let s = z .sizes in
       record {
-        counts = recount c first now (c .blocks) (c .messages);
+        counts = recounted c refl refl first now (c .blocks) (c .messages);
         leaders = z .leaders;
         blocks = z .blocks;
         messages = z .messages;
@@ -65,7 +65,7 @@ module _ {r : Book} (z : Ranges r) where
       ranges-quiet (r .epoch) (withMember (r .acted) q) (r .places) (r .offices) (z .counts .first) (z .counts .current) (z .finals)
 
   -- the next epoch is one of the schedule's
-  ranges-epoch : r .epoch .0 < r .length → Ranges (withNextEpoch r)
+  ranges-epoch : r .epoch .0 < r .scheduled → Ranges (withNextEpoch r)
   unfolding withNextEpoch
   ranges-epoch more =
       ranges-quiet (epoch (r .epoch .0 + 1)) 0 (r .places) (r .offices) (omega arith) (omega arith) (z .finals)
@@ -86,7 +86,7 @@ module _ {r : Book} (z : Ranges r) where
       let c = z .counts in
       let s = z .sizes in
       record {
-        counts = recount c (c .first) (c .current) (omega arith) (c .messages);
+        counts = recounted c refl refl (c .first) (c .current) (omega arith) (c .messages);
         leaders = z .leaders;
         blocks = λ k l. (
           stored (λ (x : ℕ). x < k + 1) (r .parents) b (new .parent .0) (k + 1) 0 (λ h. omega arith) (λ h. omega arith)
@@ -114,7 +114,7 @@ module _ {r : Book} (z : Ranges r) where
       let c = z .counts in
       let s = z .sizes in
       record {
-        counts = recount c (c .first) (c .current) (c .blocks) (omega arith);
+        counts = recounted c refl refl (c .first) (c .current) (c .blocks) (omega arith);
         leaders = z .leaders;
         blocks = z .blocks;
         messages = λ x l. (

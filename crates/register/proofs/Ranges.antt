@@ -8,16 +8,17 @@ use lib.ListN.{getD}
 use Rattle.words.specs.Tests.{either}
 use Rattle.words.proofs.Tests.{clash, both-left, both-right, both-make, all-at, all-make, between-true, between-make}
 use Rattle.words.proofs.Clearing.{holds, hold}
-use Rattle.register.specs.Types.{Book}
+use Rattle.register.specs.Types.{Book, Scalars}
+use Rattle.register.specs.Books.{scalarsOf}
 use Rattle.register.specs.Tables.{trusted, finalOf}
 use Rattle.register.specs.Fitness.{countsFit, blockFits, messageFits, stateFits, fit}
 use Rattle.register.specs.Promises.{Sizes}
-use Rattle.register.specs.Lent.{Counts}
+use Rattle.register.specs.Lent.{Counted}
 
 -- every number of the book is in its range, and the tables have their sizes
 pub record Ranges (r : Book) : Type 0 where
-  pub counts : Counts (r .n) (r .length) (r .epoch .0) (r .last .0) (r .count)
-  pub leaders : (i : ℕ) → i < r .length → getD (r .leaders) i 0 < r .n
+  pub counts : Counted (scalarsOf r)
+  pub leaders : (i : ℕ) → i < r .scheduled → getD (r .leaders) i 0 < r .n
   pub blocks : (k : ℕ) → k < r .last .0 → (getD (r .parents) (k + 1) 0 < k + 1) × (getD (r .epochs) (k + 1) 0 ≤ 511)
   pub messages : (m : ℕ) → m < r .count
       → (getD (r .signers) m 0 < r .n) × ((1 ≤ getD (r .about) m 0) × (getD (r .about) m 0 ≤ r .last .0))
@@ -37,30 +38,32 @@ implies true u h = h refl
 implies false u h = refl
 
 -- the single numbers are in their ranges where the tests of them hold
-pub counts : (n epochs epoch last count : ℕ) → countsFit n epochs epoch last count ≡ true → Counts n epochs epoch last count
+pub counted : (s : Scalars) → countsFit s ≡ true → Counted s
 unfolding countsFit
-counts n epochs epoch last count h =
+counted s h =
     let all = holds _ h in
+    let offices = between-true 1 32 (s .n) (all .0) in
+    let epoch = between-true 1 (s .scheduled) (s .epoch .0) (all .1 .1 .0) in
     record {
-      some = between-true 1 32 n (all .0) .0;
-      offices = between-true 1 32 n (all .0) .1;
-      schedule = between-true 1 256 epochs (all .1 .0) .1;
-      first = between-true 1 epochs epoch (all .1 .1 .0) .0;
-      current = between-true 1 epochs epoch (all .1 .1 .0) .1;
-      blocks = leb-true last 255 (all .1 .1 .1 .0);
-      messages = leb-true count 1024 (all .1 .1 .1 .1 .0);
+      some = offices .0;
+      offices = offices .1;
+      schedule = between-true 1 256 (s .scheduled) (all .1 .0) .1;
+      first = epoch .0;
+      current = epoch .1;
+      blocks = leb-true _ 255 (all .1 .1 .1 .0);
+      messages = leb-true _ 1024 (all .1 .1 .1 .1 .0);
     }
 
 -- they stay so with another epoch and other counts in their ranges
-pub recount : {n epochs e b m epoch last count : ℕ} → Counts n epochs e b m → 1 ≤ epoch → epoch ≤ epochs → last ≤ 255 → count ≤ 1024
-    → Counts n epochs epoch last count
-recount c first current blocks messages =
+pub recounted : {s t : Scalars} → Counted s → t .n ≡ s .n → t .scheduled ≡ s .scheduled → 1 ≤ t .epoch .0 → t .epoch .0 ≤ s .scheduled
+    → t .last .0 ≤ 255 → t .count ≤ 1024 → Counted t
+recounted c n scheduled first current blocks messages =
     record {
-      some = c .some;
-      offices = c .offices;
-      schedule = c .schedule;
+      some = omega (arith, c .some);
+      offices = omega (arith, c .offices);
+      schedule = omega (arith, c .schedule);
       first = first;
-      current = current;
+      current = omega arith;
       blocks = blocks;
       messages = messages;
     }
@@ -72,7 +75,7 @@ module _ {r : Book} where
   ranges sizes h =
       let all = holds _ h in
       record {
-        counts = counts _ _ _ _ _ (all .0);
+        counts = counted _ (all .0);
         leaders = λ i l. ltb-true _ _ (all-at _ _ i (all .1 .0) l);
         blocks = λ k l.
             let fits = all-at _ _ k (all .1 .1 .0) l in

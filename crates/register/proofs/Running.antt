@@ -11,12 +11,12 @@ use lib.Seq.{take-suc, length-take-le, set-append-seam}
 use Rattle.words.specs.Tests.{choose}
 use Rattle.words.specs.Digits.{withMember}
 use Rattle.register.specs.Types.{Step, Register, Stepped, Ran, Book, Change}
-use Rattle.register.specs.Books.{bookOf, registerOf}
+use Rattle.register.specs.Books.{bookOf, registerOf, scalarsOf}
 use Rattle.register.specs.Fitness.{fit}
 use Rattle.register.specs.Steps.{Outcome, judged, ruleOf, bookRule, stepRule}
 use Rattle.register.specs.Runs.{afterSteps, answers, padded, ran}
 use Rattle.register.specs.Promises.{Sizes}
-use Rattle.register.specs.Lent.{Counts}
+use Rattle.register.specs.Lent.{Counted}
 use Rattle.register.specs.Settled.{AllSettled, actorOf}
 use Rattle.register.proofs.Typing.{book-register, register-book}
 use Rattle.register.proofs.Ranges.{ranges}
@@ -146,7 +146,7 @@ module _ {r : Register} {steps : List Step} {i : ℕ} {book : Book} {ks vs : Lis
 -- the single numbers of a fit book are in their ranges
 pub held-counts : {r : Register} {steps : List Step} {i : ℕ} {book : Book} {ks vs : List ℕ} {fits : Bool} {settled : ℕ}
     → Held r steps i book ks vs fits settled → fits ≡ true
-    → Counts (book .n) (book .length) (book .epoch .0) (book .last .0) (book .count)
+    → Counted (scalarsOf book)
 held-counts held fit = ranges (held .sizes) (held .fit ∙ fit) .counts
 
 -- before the first step

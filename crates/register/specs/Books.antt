@@ -30,7 +30,7 @@ bookOf r =
     record {
       n = r .n;
       trust = r .trust;
-      length = r .length;
+      scheduled = r .scheduled;
       leaders = map officeNumber (r .leaders);
       epoch = r .epoch;
       last = r .last;
@@ -52,7 +52,7 @@ registerOf b =
     record {
       n = b .n;
       trust = b .trust;
-      length = b .length;
+      scheduled = b .scheduled;
       leaders = map office (b .leaders);
       epoch = b .epoch;
       last = b .last;
@@ -74,7 +74,7 @@ scalarsOf b =
     record {
       n = b .n;
       trust = b .trust;
-      length = b .length;
+      scheduled = b .scheduled;
       epoch = b .epoch;
       last = b .last;
       count = b .count;
@@ -108,7 +108,7 @@ changed b e acted blocks messages offices =
     record {
       n = b .n;
       trust = b .trust;
-      length = b .length;
+      scheduled = b .scheduled;
       leaders = b .leaders;
       epoch = e;
       last = blocks .last;

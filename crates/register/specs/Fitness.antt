@@ -5,24 +5,25 @@ use mathlib.Core.List.{[], _∷_}
 use lib.Dec.{ltb, leb}
 use lib.ListN.{getD}
 use Rattle.words.specs.Tests.{both, either, conj, all, between}
-use Rattle.register.specs.Types.{OfficeState, Book}
+use Rattle.register.specs.Types.{OfficeState, Book, Scalars}
+use Rattle.register.specs.Books.{scalarsOf}
 use Rattle.register.specs.Limits.{mostOffices, mostEpochs, mostBlocks, mostMessages, widestEpoch}
 use Rattle.register.specs.Tables.{trusted, stateOf}
 
 -- the single numbers: offices, schedule length, epoch, number of blocks and number of messages
-unfoldable pub countsFit : (n length epoch last count : ℕ) → Bool
-countsFit n length epoch last count =
+unfoldable pub countsFit : Scalars → Bool
+countsFit s =
     conj
-    (between 1 mostOffices n
-    ∷ between 1 mostEpochs length
-    ∷ between 1 length epoch
-    ∷ leb last mostBlocks
-    ∷ leb count mostMessages
+    (between 1 mostOffices (s .n)
+    ∷ between 1 mostEpochs (s .scheduled)
+    ∷ between 1 (s .scheduled) (s .epoch .0)
+    ∷ leb (s .last .0) mostBlocks
+    ∷ leb (s .count) mostMessages
     ∷ [])
 
 -- every leader of the schedule is an office
 abbrev pub leadersFit : Book → Bool
-leadersFit r = all (r .length) (λ i. ltb (getD (r .leaders) i 0) (r .n))
+leadersFit r = all (r .scheduled) (λ i. ltb (getD (r .leaders) i 0) (r .n))
 
 -- a block has a smaller parent, and an epoch up to 511
 unfoldable pub blockFits : (b parent epoch : ℕ) → Bool
@@ -51,7 +52,7 @@ officesFit r = all (r .n) (λ q. either (not (trusted r q)) (stateFits (r .last 
 unfoldable pub fit : Book → Bool
 fit r =
     conj
-    (countsFit (r .n) (r .length) (r .epoch .0) (r .last .0) (r .count)
+    (countsFit (scalarsOf r)
     ∷ leadersFit r
     ∷ blocksFit r
     ∷ messagesFit r

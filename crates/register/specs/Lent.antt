@@ -36,7 +36,7 @@ wholeBook s leaders blocks messages offices =
     record {
       n = s .n;
       trust = s .trust;
-      length = s .length;
+      scheduled = s .scheduled;
       leaders = leaders;
       epoch = s .epoch;
       last = s .last;
@@ -63,14 +63,11 @@ readBook s r =
     (r .offices)
 
 -- single numbers that are in their ranges
-pub record Counts (n epochs epoch last count : ℕ) : Type 0 where
-  pub some : 1 ≤ n
-  pub offices : n ≤ mostOffices
-  pub schedule : epochs ≤ mostEpochs
-  pub first : 1 ≤ epoch
-  pub current : epoch ≤ epochs
-  pub blocks : last ≤ mostBlocks
-  pub messages : count ≤ mostMessages
-
-abbrev pub Counted : Scalars → Type 0
-Counted s = Counts (s .n) (s .length) (s .epoch .0) (s .last .0) (s .count)
+pub record Counted (s : Scalars) : Type 0 where
+  pub some : 1 ≤ s .n
+  pub offices : s .n ≤ mostOffices
+  pub schedule : s .scheduled ≤ mostEpochs
+  pub first : 1 ≤ s .epoch .0
+  pub current : s .epoch .0 ≤ s .scheduled
+  pub blocks : s .last .0 ≤ mostBlocks
+  pub messages : s .count ≤ mostMessages

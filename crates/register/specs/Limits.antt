@@ -13,6 +13,10 @@ mostEpochs = 256
 abbrev pub mostBlocks : ℕ
 mostBlocks = 255
 
+-- the table of blocks has an entry for each of them, and one for genesis
+abbrev pub blockEntries : ℕ
+blockEntries = 256
+
 -- messages 0 to 1,023 are sent
 abbrev pub mostMessages : ℕ
 mostMessages = 1024

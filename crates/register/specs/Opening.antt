@@ -8,7 +8,7 @@ use Rattle.words.specs.Tests.{choose}
 use Rattle.words.specs.Digits.{digit, fill}
 use Rattle.quorum.specs.Opening.{openingRefusal}
 use Rattle.register.specs.Types.{Register, Opened, Book}
-use Rattle.register.specs.Limits.{mostEpochs}
+use Rattle.register.specs.Limits.{mostOffices, mostEpochs, blockEntries, mostMessages}
 use Rattle.register.specs.Books.{epoch, block, registerOf}
 
 -- the table of leaders: the schedule, and office 0 from its end up to entry 255
@@ -16,30 +16,30 @@ unfoldable pub leaderTable : List ℕ → List ℕ
 leaderTable schedule = schedule ++ replicate (mostEpochs - length schedule) 0
 
 -- a book of epoch e with no blocks but genesis and no messages, in which all are ready and all final blocks are 0
-unfoldable pub blank : (n trust epochs e : ℕ) → (leaders : List ℕ) → Book
-blank n trust epochs e leaders =
+unfoldable pub blank : (n trust scheduled e : ℕ) → (leaders : List ℕ) → Book
+blank n trust scheduled e leaders =
     record {
       n = n;
       trust = trust;
-      length = epochs;
+      scheduled = scheduled;
       leaders = leaders;
       epoch = epoch e;
       last = block 0;
-      parents = replicate 256 0;
-      epochs = replicate 256 0;
-      payloads = replicate 256 0;
+      parents = replicate blockEntries 0;
+      epochs = replicate blockEntries 0;
+      payloads = replicate blockEntries 0;
       count = 0;
-      votes = replicate 1024 false;
-      signers = replicate 1024 0;
-      about = replicate 1024 0;
-      places = replicate 1024 0;
+      votes = replicate mostMessages false;
+      signers = replicate mostMessages 0;
+      about = replicate mostMessages 0;
+      places = replicate mostMessages 0;
       acted = 0;
-      offices = replicate 32 (record { finalised = block 0 });
+      offices = replicate mostOffices (record { finalised = block 0 });
     }
 
 -- the register of a refused opening: n = 0, and every other field 0, empty or ready
 unfoldable pub closed : Register
-closed = registerOf (blank 0 0 0 0 (replicate 256 0))
+closed = registerOf (blank 0 0 0 0 (replicate mostEpochs 0))
 
 -- the fresh book. Bits of the trust word from n up are stored as 0.
 unfoldable pub freshBook : (n trust : ℕ) → (schedule : List ℕ) → Book

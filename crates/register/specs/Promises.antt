@@ -5,6 +5,7 @@ use mathlib.Core.Bool.{true}
 use mathlib.Core.List.{List}
 use lib.ListN.{length}
 use Rattle.register.specs.Types.{Step, Register, Book}
+use Rattle.register.specs.Limits.{blockEntries, mostMessages}
 use Rattle.register.specs.Books.{bookOf}
 use Rattle.register.specs.Fitness.{fit}
 use Rattle.register.specs.Opening.{closed, opening}
@@ -13,10 +14,10 @@ use Rattle.register.specs.Runs.{Run, moment}
 
 -- the columns that a register's fitness depends on have the sizes that those of the code have; in the rules a column is a list of any length
 pub record Sizes (r : Book) : Type 0 where
-  pub parents : length (r .parents) ≡ 256
-  pub epochs : length (r .epochs) ≡ 256
-  pub signers : length (r .signers) ≡ 1024
-  pub about : length (r .about) ≡ 1024
+  pub parents : length (r .parents) ≡ blockEntries
+  pub epochs : length (r .epochs) ≡ blockEntries
+  pub signers : length (r .signers) ≡ mostMessages
+  pub about : length (r .about) ≡ mostMessages
 
 -- An opening that is not refused gives a fit register.
 unfoldable pub OpeningsAreFit : Type 0
@@ -51,11 +52,11 @@ RefusedStepStays =
 pub record Council : Type 0 where
   pub n : ℕ
   pub trust : ℕ
-  pub length : ℕ
+  pub scheduled : ℕ
   pub leaders : List ℕ
 
 unfoldable pub councilOf : Book → Council
-councilOf r = record { n = r .n; trust = r .trust; length = r .length; leaders = r .leaders }
+councilOf r = record { n = r .n; trust = r .trust; scheduled = r .scheduled; leaders = r .leaders }
 
 -- No step changes it.
 unfoldable pub StepsKeepCouncil : Type 0

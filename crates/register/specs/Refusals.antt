@@ -91,7 +91,7 @@ notSent r q m = not (inTransit r q m)
 
 -- 24: the current epoch is the schedule's last
 abbrev pub spent : Book → Bool
-spent r = leb (r .length) (r .epoch .0)
+spent r = leb (r .scheduled) (r .epoch .0)
 
 -- 25: a new block is needed, and there are 255
 abbrev pub blocksFull : Book → Header → Bool

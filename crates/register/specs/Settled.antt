@@ -7,6 +7,7 @@ use lib.Dec.{eqb}
 use Rattle.words.specs.Tests.{choose}
 use Rattle.words.specs.Digits.{digit}
 use Rattle.register.specs.Types.{Office, Block, Step, OfficeState, Book}
+use Rattle.register.specs.Limits.{mostOffices}
 use Rattle.register.specs.Books.{block}
 use Rattle.register.specs.Tables.{finalOf}
 use Rattle.register.specs.Chains.{chainNotarised}
@@ -18,7 +19,7 @@ pub record Settled (r : Book) (q : ℕ) : Type 0 where
 
 -- the same of each office of a set
 abbrev pub AllSettled : Book → (set : ℕ) → Type 0
-AllSettled r set = (q : ℕ) → q < 32 → eqb (digit 2 set q) 1 ≡ true → Settled r q
+AllSettled r set = (q : ℕ) → q < mostOffices → eqb (digit 2 set q) 1 ≡ true → Settled r q
 
 -- block b's chain is notarised in office q's view
 abbrev pub Base : Book → (q b : ℕ) → Type 0
@@ -28,13 +29,17 @@ Base r q b = chainNotarised r q b ≡ true
 abbrev pub settledBase : OfficeState → (set q : ℕ) → Block
 settledBase state set q = choose (eqb (digit 2 set q) 1) (state .finalised) (block 0)
 
+-- an office that is not there
+abbrev pub nobody : Office
+nobody = record { 0 = mostOffices }
+
 -- the office whose state a step may change; one that is not there for a step that changes none
 unfoldable pub actorOf : Step → Office
-actorOf (Step.Propose office parent payload) = record { 0 = 32 }
-actorOf (Step.Vote office message) = record { 0 = 32 }
-actorOf (Step.Register office message) = record { 0 = 32 }
+actorOf (Step.Propose office parent payload) = nobody
+actorOf (Step.Vote office message) = nobody
+actorOf (Step.Register office message) = nobody
 actorOf (Step.Finalise office newest) = office
-actorOf (Step.Deliver message office) = record { 0 = 32 }
-actorOf (Step.BadSend sender kind signer about) = record { 0 = 32 }
-actorOf (Step.Draft parent epoch payload) = record { 0 = 32 }
-actorOf Step.Advance = record { 0 = 32 }
+actorOf (Step.Deliver message office) = nobody
+actorOf (Step.BadSend sender kind signer about) = nobody
+actorOf (Step.Draft parent epoch payload) = nobody
+actorOf Step.Advance = nobody

@@ -4,7 +4,9 @@ ghost use Prim.Native.Nat.{_<_, _^_};
 ghost use lib.Dec.{eqb, ltb};
 ghost use Rattle.words.specs.Tests.{choose};
 ghost use Rattle.words.specs.Digits.{withMember};
+ghost use Rattle.register.specs.Limits.{mostOffices};
 ghost use Rattle.register.specs.Settled.{actorOf, settledBase};
+use crate::limits::OFFICES;
 use crate::sorts::Block;
 use crate::sorts::Office;
 use crate::step::Step;
@@ -17,21 +19,25 @@ pub struct Actor {
     pub base: Block,
 }
 
+// An office that is not there.
+const NOBODY: Office = Office(32);
+
 // The office whose state a step may change; one that is not there for a step that changes none.
 pub(crate) fn actor_of(step: Step) -> Office
     ensures { λ r. ⌜ r ≡ actorOf step ⌝ }
 {
     match step {
         Step::Finalise(office, _) => office,
-        _ => Office(32),
+        _ => NOBODY,
     }
 }
 
 // The place of an office in the table of offices; that of office 0 for a number that has none.
 pub(crate) fn place_of(office: Office) -> usize
-    ensures { λ r. ⌜ (r ≡ choose (ltb (office .0) 32) (office .0) 0) × (r < 32) ⌝ }
+    ensures { λ r. ⌜ (r ≡ choose (ltb (office .0) mostOffices) (office .0) 0) × (r < mostOffices) ⌝ }
 {
-    if office.0 < 32 { office.0 as usize } else { 0 }
+    let at = office.0 as usize;
+    if at < OFFICES { at } else { 0 }
 }
 
 // The final block that the office holds, where a step of the batch made it final; else genesis. The set is a word of 32 bits, as a caller that has it

@@ -14,6 +14,7 @@ ghost use Rattle.register.specs.Books.{
   registerOf,
   scalarsOf,
 };
+ghost use Rattle.register.specs.Limits.{blockEntries, mostMessages};
 ghost use Rattle.register.specs.Promises.{Sizes};
 use crate::columns::About;
 use crate::columns::Epochs;
@@ -23,6 +24,10 @@ use crate::columns::Payloads;
 use crate::columns::Places;
 use crate::columns::Signers;
 use crate::columns::Votes;
+use crate::limits::BLOCKS;
+use crate::limits::EPOCHS;
+use crate::limits::MESSAGES;
+use crate::limits::OFFICES;
 use crate::sorts::Block;
 use crate::sorts::Epoch;
 use crate::sorts::Office;
@@ -33,7 +38,7 @@ use crate::table::Register;
 pub struct Book {
     pub n: u8,
     pub trust: u32,
-    pub length: u16,
+    pub scheduled: u16,
     pub leaders: Leaders,
     pub epoch: Epoch,
     pub last: Block,
@@ -46,14 +51,14 @@ pub struct Book {
     pub about: About,
     pub places: Places,
     pub acted: u32,
-    pub offices: [OfficeState; 32],
+    pub offices: [OfficeState; OFFICES],
 }
 
 // The single numbers of a book.
 pub struct Scalars {
     pub n: u8,
     pub trust: u32,
-    pub length: u16,
+    pub scheduled: u16,
     pub epoch: Epoch,
     pub last: Block,
     pub count: u16,
@@ -61,12 +66,12 @@ pub struct Scalars {
 }
 
 // The numbers of the leaders.
-fn leader_numbers(typed: [Office; 256]) -> Leaders
+fn leader_numbers(typed: [Office; EPOCHS]) -> Leaders
     ensures { λ r. ⌜ r ≡ map officeNumber typed ⌝ }
 {
-    let mut numbers = [0u8; 256];
+    let mut numbers = [0u8; EPOCHS];
     let mut i = 0;
-    while i < 256 {
+    while i < EPOCHS {
         let entry = typed[i];
         numbers[i] = entry.0;
         i += 1;
@@ -75,12 +80,12 @@ fn leader_numbers(typed: [Office; 256]) -> Leaders
 }
 
 // The numbers of the blocks' parents.
-pub(crate) fn parent_numbers(typed: [Block; 256]) -> Parents
-    ensures { λ r. ⌜ (r ≡ map blockNumber typed) × (length r ≡ 256) ⌝ }
+pub(crate) fn parent_numbers(typed: [Block; BLOCKS]) -> Parents
+    ensures { λ r. ⌜ (r ≡ map blockNumber typed) × (length r ≡ blockEntries) ⌝ }
 {
-    let mut numbers = [0u8; 256];
+    let mut numbers = [0u8; BLOCKS];
     let mut i = 0;
-    while i < 256 {
+    while i < BLOCKS {
         let entry = typed[i];
         numbers[i] = entry.0;
         i += 1;
@@ -89,12 +94,12 @@ pub(crate) fn parent_numbers(typed: [Block; 256]) -> Parents
 }
 
 // The numbers of the blocks' epochs.
-fn epoch_numbers(typed: [Epoch; 256]) -> Epochs
-    ensures { λ r. ⌜ (r ≡ map epochNumber typed) × (length r ≡ 256) ⌝ }
+fn epoch_numbers(typed: [Epoch; BLOCKS]) -> Epochs
+    ensures { λ r. ⌜ (r ≡ map epochNumber typed) × (length r ≡ blockEntries) ⌝ }
 {
-    let mut numbers = [0u16; 256];
+    let mut numbers = [0u16; BLOCKS];
     let mut i = 0;
-    while i < 256 {
+    while i < BLOCKS {
         let entry = typed[i];
         numbers[i] = entry.0;
         i += 1;
@@ -103,12 +108,12 @@ fn epoch_numbers(typed: [Epoch; 256]) -> Epochs
 }
 
 // The numbers of the messages' signers.
-fn signer_numbers(typed: [Office; 1024]) -> Signers
-    ensures { λ r. ⌜ (r ≡ map officeNumber typed) × (length r ≡ 1024) ⌝ }
+fn signer_numbers(typed: [Office; MESSAGES]) -> Signers
+    ensures { λ r. ⌜ (r ≡ map officeNumber typed) × (length r ≡ mostMessages) ⌝ }
 {
-    let mut numbers = [0u8; 1024];
+    let mut numbers = [0u8; MESSAGES];
     let mut i = 0;
-    while i < 1024 {
+    while i < MESSAGES {
         let entry = typed[i];
         numbers[i] = entry.0;
         i += 1;
@@ -117,12 +122,12 @@ fn signer_numbers(typed: [Office; 1024]) -> Signers
 }
 
 // The numbers of the blocks that the messages are about.
-fn about_numbers(typed: [Block; 1024]) -> About
-    ensures { λ r. ⌜ (r ≡ map blockNumber typed) × (length r ≡ 1024) ⌝ }
+fn about_numbers(typed: [Block; MESSAGES]) -> About
+    ensures { λ r. ⌜ (r ≡ map blockNumber typed) × (length r ≡ mostMessages) ⌝ }
 {
-    let mut numbers = [0u8; 1024];
+    let mut numbers = [0u8; MESSAGES];
     let mut i = 0;
-    while i < 1024 {
+    while i < MESSAGES {
         let entry = typed[i];
         numbers[i] = entry.0;
         i += 1;
@@ -131,13 +136,13 @@ fn about_numbers(typed: [Block; 1024]) -> About
 }
 
 // The leaders of those numbers.
-fn leaders_of(numbers: Leaders) -> [Office; 256]
+fn leaders_of(numbers: Leaders) -> [Office; EPOCHS]
     ensures { λ r. ⌜ r ≡ map office numbers ⌝ }
 {
     let none = Office(0);
-    let mut typed = [none; 256];
+    let mut typed = [none; EPOCHS];
     let mut i = 0;
-    while i < 256 {
+    while i < EPOCHS {
         typed[i] = Office(numbers[i]);
         i += 1;
     }
@@ -145,13 +150,13 @@ fn leaders_of(numbers: Leaders) -> [Office; 256]
 }
 
 // The parents of those numbers.
-fn parents_of(numbers: Parents) -> [Block; 256]
+fn parents_of(numbers: Parents) -> [Block; BLOCKS]
     ensures { λ r. ⌜ r ≡ map block numbers ⌝ }
 {
     let none = Block(0);
-    let mut typed = [none; 256];
+    let mut typed = [none; BLOCKS];
     let mut i = 0;
-    while i < 256 {
+    while i < BLOCKS {
         typed[i] = Block(numbers[i]);
         i += 1;
     }
@@ -159,13 +164,13 @@ fn parents_of(numbers: Parents) -> [Block; 256]
 }
 
 // The epochs of those numbers.
-fn epochs_of(numbers: Epochs) -> [Epoch; 256]
+fn epochs_of(numbers: Epochs) -> [Epoch; BLOCKS]
     ensures { λ r. ⌜ r ≡ map epoch numbers ⌝ }
 {
     let none = Epoch(0);
-    let mut typed = [none; 256];
+    let mut typed = [none; BLOCKS];
     let mut i = 0;
-    while i < 256 {
+    while i < BLOCKS {
         typed[i] = Epoch(numbers[i]);
         i += 1;
     }
@@ -173,13 +178,13 @@ fn epochs_of(numbers: Epochs) -> [Epoch; 256]
 }
 
 // The signers of those numbers.
-fn signers_of(numbers: Signers) -> [Office; 1024]
+fn signers_of(numbers: Signers) -> [Office; MESSAGES]
     ensures { λ r. ⌜ r ≡ map office numbers ⌝ }
 {
     let none = Office(0);
-    let mut typed = [none; 1024];
+    let mut typed = [none; MESSAGES];
     let mut i = 0;
-    while i < 1024 {
+    while i < MESSAGES {
         typed[i] = Office(numbers[i]);
         i += 1;
     }
@@ -187,13 +192,13 @@ fn signers_of(numbers: Signers) -> [Office; 1024]
 }
 
 // The messages' blocks of those numbers.
-fn about_of(numbers: About) -> [Block; 1024]
+fn about_of(numbers: About) -> [Block; MESSAGES]
     ensures { λ r. ⌜ r ≡ map block numbers ⌝ }
 {
     let none = Block(0);
-    let mut typed = [none; 1024];
+    let mut typed = [none; MESSAGES];
     let mut i = 0;
-    while i < 1024 {
+    while i < MESSAGES {
         typed[i] = Block(numbers[i]);
         i += 1;
     }
@@ -219,7 +224,7 @@ impl Register {
         Book {
             n: self.n,
             trust: self.trust,
-            length: self.length,
+            scheduled: self.scheduled,
             leaders: leader_numbers(leaders),
             epoch,
             last,
@@ -247,7 +252,7 @@ impl Book {
         Scalars {
             n: self.n,
             trust: self.trust,
-            length: self.length,
+            scheduled: self.scheduled,
             epoch,
             last,
             count: self.count,
@@ -273,7 +278,7 @@ impl Book {
         Register {
             n: self.n,
             trust: self.trust,
-            length: self.length,
+            scheduled: self.scheduled,
             leaders: leaders_of(leaders),
             epoch,
             last,

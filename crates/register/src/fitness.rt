@@ -7,6 +7,7 @@ ghost use lib.ListN.{getD};
 ghost use Rattle.words.specs.Lent.{lent};
 ghost use Rattle.words.specs.Tests.{either, all};
 ghost use Rattle.tables.specs.Blocks.{trustedIn};
+ghost use Rattle.register.specs.Limits.{mostOffices, mostEpochs, mostMessages};
 ghost use Rattle.register.specs.Books.{bookOf};
 ghost use Rattle.register.specs.Tables.{stateIn};
 ghost use Rattle.register.specs.Fitness.{countsFit, blockFits, messageFits, stateFits, fit};
@@ -17,33 +18,34 @@ use crate::columns::Epochs;
 use crate::columns::Leaders;
 use crate::columns::Parents;
 use crate::columns::Signers;
+use crate::limits::EPOCHS;
 use crate::limits::MOST_BLOCKS;
 use crate::limits::MOST_MESSAGES;
+use crate::limits::OFFICES;
 use crate::limits::WIDEST_EPOCH;
 use crate::table::OfficeState;
 use crate::table::Register;
 
 // The single numbers are in their ranges.
 fn counts_fit(scalars: Scalars) -> bool
-    ensures { λ r. ⌜ r ≡ countsFit
-        (scalars .n) (scalars .length) (scalars .epoch .0) (scalars .last .0) (scalars .count) ⌝ }
+    ensures { λ r. ⌜ r ≡ countsFit scalars ⌝ }
 {
-    let length = scalars.length as usize;
-    words::between(1, 32, scalars.n as usize)
-        & words::between(1, 256, length)
-        & words::between(1, length, scalars.epoch.0 as usize)
+    let scheduled = scalars.scheduled as usize;
+    words::between(1, OFFICES, scalars.n as usize)
+        & words::between(1, EPOCHS, scheduled)
+        & words::between(1, scheduled, scalars.epoch.0 as usize)
         & (scalars.last.0 as u16 <= MOST_BLOCKS)
         & (scalars.count <= MOST_MESSAGES)
 }
 
 // Every leader of the schedule is an office.
-fn leaders_fit(leaders: &Leaders, length: usize, n: u8) -> bool
-    requires { ⌜ length ≤ 256 ⌝ }
-    ensures { λ r. ⌜ r ≡ all length (λ i. ltb (getD (lent leaders) i 0) n) ⌝ }
+fn leaders_fit(leaders: &Leaders, scheduled: usize, n: u8) -> bool
+    requires { ⌜ scheduled ≤ mostEpochs ⌝ }
+    ensures { λ r. ⌜ r ≡ all scheduled (λ i. ltb (getD (lent leaders) i 0) n) ⌝ }
 {
     let mut fits = true;
     let mut i = 0;
-    while i < length {
+    while i < scheduled {
         fits = fits & (leaders[i] < n);
         i += 1;
     }
@@ -82,7 +84,7 @@ fn message_fits(n: u8, last: u8, signer: u8, about: u8) -> bool
 
 // Every message sent fits.
 fn messages_fit<'a>(signers: &'a Signers, about: &'a About, count: usize, n: u8, last: u8) -> bool
-    requires { ⌜ count ≤ 1024 ⌝ }
+    requires { ⌜ count ≤ mostMessages ⌝ }
     ensures { λ r. ⌜ r ≡ all count (λ m. messageFits n last (getD (lent signers) m 0) (getD (lent about) m 0)) ⌝ }
 {
     let mut fits = true;
@@ -102,8 +104,8 @@ fn state_fits(last: u8, state: OfficeState) -> bool
 }
 
 // So does what every trusted office holds.
-fn offices_fit(offices: [OfficeState; 32], n: u8, trust: u32, last: u8) -> bool
-    requires { ⌜ n ≤ 32 ⌝ }
+fn offices_fit(offices: [OfficeState; OFFICES], n: u8, trust: u32, last: u8) -> bool
+    requires { ⌜ n ≤ mostOffices ⌝ }
     ensures { λ r. ⌜ r ≡ all n (λ q. either (not (trustedIn n trust q)) (stateFits last (stateIn offices q))) ⌝ }
 {
     let mut fits = true;
@@ -128,7 +130,7 @@ impl Book {
             return false;
         }
         let offices = self.offices;
-        leaders_fit(&self.leaders, self.length as usize, n)
+        leaders_fit(&self.leaders, self.scheduled as usize, n)
             & blocks_fit(&self.parents, &self.epochs, last)
             & messages_fit(&self.signers, &self.about, self.count as usize, n, last)
             & offices_fit(offices, n, self.trust, last)

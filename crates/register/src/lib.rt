@@ -4,7 +4,7 @@ mod book;
 mod change;
 mod columns;
 mod fitness;
-mod limits;
+pub mod limits;
 pub mod opening;
 mod read;
 pub mod refusal;

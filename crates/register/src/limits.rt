@@ -18,3 +18,6 @@ pub(crate) const MOST_MESSAGES: u16 = 1024;
 
 // A block's epoch is from 0 to 511.
 pub(crate) const WIDEST_EPOCH: u16 = 511;
+
+// So many steps make a batch.
+pub const BATCH: usize = 256;

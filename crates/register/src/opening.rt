@@ -3,9 +3,14 @@ ghost use mathlib.Core.Path.{_≡_};
 ghost use Prim.Native.Nat.{_≤_};
 ghost use lib.ListN.{length};
 ghost use Rattle.words.specs.Lent.{lent};
+ghost use Rattle.register.specs.Limits.{mostEpochs};
 ghost use Rattle.register.specs.Opening.{leaderTable, blank, closed, freshBook, opening};
 use crate::book::Book;
 use crate::columns::Leaders;
+use crate::limits::BLOCKS;
+use crate::limits::EPOCHS;
+use crate::limits::MESSAGES;
+use crate::limits::OFFICES;
 use crate::sorts::Block;
 use crate::sorts::Epoch;
 use crate::table::OfficeState;
@@ -14,10 +19,10 @@ use crate::table::Register;
 
 // The table of leaders: the schedule, and office 0 past its end.
 fn leader_table(schedule: &[u8]) -> Leaders
-    requires { ⌜ length (now schedule) ≤ 256 ⌝ }
+    requires { ⌜ length (now schedule) ≤ mostEpochs ⌝ }
     ensures { λ r. ⌜ r ≡ leaderTable (lent schedule) ⌝ }
 {
-    let mut leaders = [0u8; 256];
+    let mut leaders = [0u8; EPOCHS];
     let mut i = 0;
     while i < schedule.len() {
         leaders[i] = schedule[i];
@@ -27,8 +32,8 @@ fn leader_table(schedule: &[u8]) -> Leaders
 }
 
 // A book of that epoch with no blocks but genesis and no messages, in which all are ready.
-fn blank(n: u8, trust: u32, length: u16, epoch: u16, leaders: Leaders) -> Book
-    ensures { λ r. ⌜ r ≡ blank n trust length epoch leaders ⌝ }
+fn blank(n: u8, trust: u32, scheduled: u16, epoch: u16, leaders: Leaders) -> Book
+    ensures { λ r. ⌜ r ≡ blank n trust scheduled epoch leaders ⌝ }
 {
     let state = OfficeState {
         finalised: Block(0),
@@ -36,20 +41,20 @@ fn blank(n: u8, trust: u32, length: u16, epoch: u16, leaders: Leaders) -> Book
     Book {
         n,
         trust,
-        length,
+        scheduled,
         leaders,
         epoch: Epoch(epoch),
         last: Block(0),
-        parents: [0; 256],
-        epochs: [0; 256],
-        payloads: [0; 256],
+        parents: [0; BLOCKS],
+        epochs: [0; BLOCKS],
+        payloads: [0; BLOCKS],
         count: 0,
-        votes: [false; 1024],
-        signers: [0; 1024],
-        about: [0; 1024],
-        places: [0; 1024],
+        votes: [false; MESSAGES],
+        signers: [0; MESSAGES],
+        about: [0; MESSAGES],
+        places: [0; MESSAGES],
         acted: 0,
-        offices: [state; 32],
+        offices: [state; OFFICES],
     }
 }
 
@@ -57,12 +62,12 @@ fn blank(n: u8, trust: u32, length: u16, epoch: u16, leaders: Leaders) -> Book
 pub fn closed() -> Register
     ensures { λ r. ⌜ r ≡ closed ⌝ }
 {
-    blank(0, 0, 0, 0, [0; 256]).register()
+    blank(0, 0, 0, 0, [0; EPOCHS]).register()
 }
 
 // The book of an opening that is not refused; trust bits from n up are stored as 0.
 fn fresh_book(n: u8, trust: u32, schedule: &[u8]) -> Book
-    requires { ⌜ length (now schedule) ≤ 256 ⌝ }
+    requires { ⌜ length (now schedule) ≤ mostEpochs ⌝ }
     ensures { λ r. ⌜ r ≡ freshBook n trust (lent schedule) ⌝ }
 {
     blank(

@@ -4,6 +4,7 @@ ghost use Rattle.register.specs.Books.{block, bookOf};
 ghost use Rattle.register.specs.Tables.{trusted, finalFor};
 ghost use Rattle.register.specs.Chains.{lengthOf};
 use crate::book::parent_numbers;
+use crate::limits::OFFICES;
 use crate::sorts::Block;
 use crate::sorts::Office;
 use crate::table::Register;
@@ -21,7 +22,7 @@ impl Register {
         ensures { λ r. ⌜ r ≡ block (finalFor (bookOf self) (office .0)) ⌝ }
     {
         let q = office.0 as usize;
-        if 32 <= q {
+        if OFFICES <= q {
             return Block(0);
         }
         if !tables::trusted_at(self.n, self.trust, office.0) {

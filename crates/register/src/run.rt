@@ -14,6 +14,7 @@ use crate::actor::place_of;
 use crate::actor::settled_after;
 use crate::actor::settled_base;
 use crate::book::Book;
+use crate::limits::BATCH;
 use crate::sorts::Block;
 use crate::sorts::Epoch;
 use crate::sorts::Kind;
@@ -26,10 +27,7 @@ use crate::table::Register;
 use crate::table::Stepped;
 
 // Steps that are run in one call.
-pub type Batch = [Step; 256];
-
-// How many steps a batch holds.
-pub const BATCH: usize = 256;
+pub type Batch = [Step; BATCH];
 
 // The number of steps, or that of a batch where it is more.
 fn in_batch(count: usize) -> usize
@@ -119,7 +117,7 @@ impl Register {
     pub fn step(self, step: Step) -> Stepped
         ensures { λ r. ⌜ r ≡ stepRule self step ⌝ }
     {
-        let ran = self.run([step; 256], 1);
+        let ran = self.run([step; BATCH], 1);
         let register = ran.register;
         Stepped {
             register,

@@ -1,3 +1,8 @@
+use crate::limits::BATCH;
+use crate::limits::BLOCKS;
+use crate::limits::EPOCHS;
+use crate::limits::MESSAGES;
+use crate::limits::OFFICES;
 use crate::sorts::Block;
 use crate::sorts::Epoch;
 use crate::sorts::Office;
@@ -21,29 +26,29 @@ pub struct Register {
     // the trusted offices: bit q for office q
     pub trust: u32,
     // how many epochs the schedule has
-    pub length: u16,
+    pub scheduled: u16,
     // the leader of epoch e stands at e - 1
-    pub leaders: [Office; 256],
+    pub leaders: [Office; EPOCHS],
     // the current epoch
     pub epoch: Epoch,
     // the last block made, 0 where there is genesis alone
     pub last: Block,
     // each block's parent, epoch and payload, at the block's number; entry 0 counts for nothing
-    pub parents: [Block; 256],
-    pub epochs: [Epoch; 256],
-    pub payloads: [u16; 256],
+    pub parents: [Block; BLOCKS],
+    pub epochs: [Epoch; BLOCKS],
+    pub payloads: [u16; BLOCKS],
     // how many messages have been sent
     pub count: u16,
     // for each message, at its number: whether it is a vote, its signer, and the block that it is about
-    pub votes: [bool; 1024],
-    pub signers: [Office; 1024],
-    pub about: [Block; 1024],
+    pub votes: [bool; MESSAGES],
+    pub signers: [Office; MESSAGES],
+    pub about: [Block; MESSAGES],
     // for each message a word in base 4, whose digit q is the message's stage for office q
-    pub places: [u64; 1024],
+    pub places: [u64; MESSAGES],
     // the offices that have acted in this epoch: bit q for office q
     pub acted: u32,
     // what each office holds, at its number
-    pub offices: [OfficeState; 32],
+    pub offices: [OfficeState; OFFICES],
 }
 
 // What opening gives: the fresh register and 0, or a register without offices and the refusal.
@@ -62,6 +67,6 @@ pub struct Stepped {
 // What a batch of steps gives: the register after them, and the refusal and the value of each at its place.
 pub struct Ran {
     pub register: Register,
-    pub refusals: [u8; 256],
-    pub values: [u16; 256],
+    pub refusals: [u8; BATCH],
+    pub values: [u16; BATCH],
 }

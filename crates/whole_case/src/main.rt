@@ -83,11 +83,11 @@ fn unfit_counts(register: Register) {
     r.n = 33;
     unfit(b"33 offices", r);
     r.n = 3;
-    r.length = 0;
+    r.scheduled = 0;
     unfit(b"no epochs", r);
-    r.length = 257;
+    r.scheduled = 257;
     unfit(b"257 epochs", r);
-    r.length = 3;
+    r.scheduled = 3;
     let before = Epoch(0);
     r.epoch = before;
     unfit(b"epoch 0", r);

@@ -15,7 +15,7 @@ pub(crate) fn advance(unchanged: Change, scalars: Scalars) -> Change
     ensures { λ r. ⌜ r ≡ changeBy unchanged (lentBook scalars [] noBlocks noMessages) Step.Advance ⌝ }
 {
     let epoch = scalars.epoch.0;
-    if scalars.length <= epoch {
+    if scalars.scheduled <= epoch {
         return unchanged.refused(refusal::SPENT);
     }
     let next = Epoch(epoch + 1);

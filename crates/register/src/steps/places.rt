@@ -8,6 +8,7 @@ ghost use Rattle.tables.specs.Blocks.{trustedIn};
 ghost use Rattle.register.specs.Views.{stage};
 ghost use Rattle.register.specs.Refusals.{entered};
 ghost use Rattle.register.specs.Effects.{sentPlace};
+ghost use Rattle.register.specs.Limits.{mostMessages};
 ghost use Rattle.register.specs.Lent.{Counted, lentBook, noBlocks, messages, noMessages};
 use crate::book::Scalars;
 use crate::columns::About;
@@ -41,7 +42,7 @@ pub(crate) fn is_entered<'a>(
     message: Message,
 ) -> bool
     requires { ⌜ Counted scalars
-        × (message .0 < 1024)
+        × (message .0 < mostMessages)
         × (trustedIn (scalars .n) (scalars .trust) (office .0) ≡ true) ⌝ }
     ensures { λ r. ⌜ r ≡ entered
         (lentBook scalars [] noBlocks (messages [] (lent signers) (lent about) (lent places)))

@@ -7,6 +7,7 @@ ghost use Rattle.words.specs.Refusals.{first, until};
 ghost use Rattle.register.specs.Types.{Step};
 ghost use Rattle.register.specs.Refusals.{offEpoch};
 ghost use Rattle.register.specs.Steps.{vote};
+ghost use Rattle.register.specs.Limits.{mostMessages};
 ghost use Rattle.register.specs.Lent.{Counted, lentBook, blocks, messages};
 ghost use Rattle.register.specs.Changes.{changeBy};
 use crate::book::Scalars;
@@ -41,7 +42,7 @@ fn is_off_epoch<'a>(
     about: &'a About,
     message: Message,
 ) -> bool
-    requires { ⌜ Counted scalars × (message .0 < 1024) ⌝ }
+    requires { ⌜ Counted scalars × (message .0 < mostMessages) ⌝ }
     ensures { λ r. ⌜ r ≡ offEpoch
         (lentBook scalars (lent leaders) (blocks [] (lent epochs) [])
         (messages [] (lent signers) (lent about) []))

@@ -11,5 +11,5 @@ place-of-spec =
     tie.close
     (tie.spec
     (λ c. search needs)
-    (λ c. (rw (lt-ltb _ _ (c .before .if1 .taken)), search needs))
+    (λ c. (rw (lt-ltb _ _ (c .if1 .taken)), search needs))
     (λ c. (rw (le-ltb _ _ (c .if1 .left)), search needs)))

@@ -11,17 +11,17 @@ use Rattle.register.proofs.fitness.leaders_fit.Statement.{statement}
 use Rattle.register.proofs.fitness.leaders_fit.Tie as tie
 
 abbrev Inv-loop : tie.InvT-loop
-Inv-loop leaders length n fits₀ i₀ fits i = (i ≤ length) × (fits ≡ all i (λ k. ltb (getD leaders k 0) n))
+Inv-loop leaders scheduled n fits₀ i₀ fits i = (i ≤ scheduled) × (fits ≡ all i (λ k. ltb (getD leaders k 0) n))
 
 abbrev μ-loop : tie.MeasureT-loop
-μ-loop leaders length n fits₀ i₀ fits i = length - i
+μ-loop leaders scheduled n fits₀ i₀ fits i = scheduled - i
 
 loop-again : tie.Need-loop-again Inv-loop μ-loop
 loop-again c = (search needs, all-next _ _ _ _ (c .before .before .loop .inv .1) refl)
 
 returns : tie.Need-returns Inv-loop μ-loop
 returns c =
-    let end : c .before .loop .i ≡ c .before .before .args .length = omega arith in
+    let end : c .before .loop .i ≡ c .before .before .args .scheduled = omega arith in
     rw end at (c .before .loop .inv .1)
 
 pub leaders-fit-spec : {M : Type 1} → statement M

@@ -6,23 +6,24 @@ use native.Mathlib.Omega.{arith}
 use borrow.Author.Tests.{not-true, not-false}
 use Rattle.words.specs.Tests.{both, conj}
 use Rattle.words.proofs.Tests.{and-four}
+use Rattle.register.specs.Books.{scalarsOf}
 use Rattle.register.specs.Fitness.{countsFit, fit}
-use Rattle.register.specs.Lent.{Counts}
-use Rattle.register.proofs.Ranges.{counts}
+use Rattle.register.specs.Lent.{Counted}
+use Rattle.register.proofs.Ranges.{counted}
 use Rattle.register.proofs.book.Book.is_fit.Statement.{statement}
 use Rattle.register.proofs.book.Book.is_fit.Tie as tie
 
 -- what the test of the counts answered, of the book itself
 answered : (c : tie.After-counts-fit)
-    → (let b = c .before .before .args .t1 in c .counts-fit .result ≡ countsFit (b .n) (b .length) (b .epoch .0) (b .last .0) (b .count))
+    → (let b = c .before .before .args .t1 in c .counts-fit .result ≡ countsFit (scalarsOf b))
 answered c = rw (c .before .scalars .ensures) at (c .counts-fit .ensures)
 
 -- past it the counts fit, and are in their ranges
 passed : (c : tie.Else1) → c .before .counts-fit .result ≡ true
 passed c = not-false _ (c .if1 .left)
 
-in-ranges : (c : tie.Else1) → (let b = c .before .before .before .args .t1 in Counts (b .n) (b .length) (b .epoch .0) (b .last .0) (b .count))
-in-ranges c = counts _ _ _ _ _ (sym (answered (c .before)) ∙ passed c)
+in-ranges : (c : tie.Else1) → (let b = c .before .before .before .args .t1 in Counted (scalarsOf b))
+in-ranges c = counted _ (sym (answered (c .before)) ∙ passed c)
 
 -- what came before, seen from where each table has been tested
 abbrev before-leaders : tie.After-leaders-fit → tie.Else1
