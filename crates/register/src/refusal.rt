@@ -1,4 +1,6 @@
 // The numbers of refusal of an opening and of a step; 0 stands for none.
+ghost use mathlib.Core.Path.{_≡_};
+ghost use mathlib.Core.List.{[], _∷_};
 
 pub const COUNT: u8 = quorum::COUNT;
 
@@ -51,3 +53,39 @@ pub const SPENT: u8 = 24;
 pub const BLOCKS_FULL: u8 = 25;
 
 pub const MESSAGES_FULL: u8 = 26;
+
+// All of them, in the order of their table.
+pub fn numbers() -> [u8; 26]
+    ensures { λ r. ⌜ r ≡
+        1 ∷ 2 ∷ 3 ∷ 4 ∷ 5 ∷ 6 ∷ 7 ∷ 8 ∷ 9 ∷ 10 ∷ 11 ∷ 12 ∷ 13 ∷
+        14 ∷ 15 ∷ 16 ∷ 17 ∷ 18 ∷ 19 ∷ 20 ∷ 21 ∷ 22 ∷ 23 ∷ 24 ∷ 25 ∷ 26 ∷ [] ⌝ }
+{
+    [
+        COUNT,
+        SCHEDULE,
+        STRAY_LEADER,
+        THIRD,
+        UNFIT_REGISTER,
+        NO_OFFICE,
+        NO_BLOCK,
+        NO_MESSAGE,
+        WIDE,
+        BARRED,
+        TRUSTED_SENDER,
+        ACTED,
+        NOT_LEADER,
+        LEADER_VOTES,
+        NOT_IN_HAND,
+        KIND,
+        OFF_EPOCH,
+        ENTERED,
+        NOT_LONGEST,
+        EPOCHS,
+        NOT_FINAL,
+        FORGED,
+        NOT_SENT,
+        SPENT,
+        BLOCKS_FULL,
+        MESSAGES_FULL,
+    ]
+}
