@@ -26,8 +26,7 @@ others Step.Advance key = refl
 pub actor-of-spec : {M : Type 1} → statement M
 unfolding actorOf
 actor-of-spec =
-    tie.close
-    (tie.spec
-    (λ c. search needs)
+    tie.close (tie.spec
+    (search needs)
     (λ c. rw (c .before .step .given .1))
     (λ c. others (c .before .args .step) (c .match .keys2)))

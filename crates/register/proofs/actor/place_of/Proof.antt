@@ -8,8 +8,7 @@ use Rattle.register.proofs.actor.place_of.Tie as tie
 pub place-of-spec : {M : Type 1} → statement M
 unfolding choose
 place-of-spec =
-    tie.close
-    (tie.spec
-    (λ c. search needs)
+    tie.close (tie.spec
+    (search needs)
     (λ c. (rw (lt-ltb _ _ (c .if1 .taken)), search needs))
     (λ c. (rw (le-ltb _ _ (c .if1 .left)), search needs)))

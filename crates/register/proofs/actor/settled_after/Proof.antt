@@ -8,8 +8,7 @@ use Rattle.register.proofs.actor.settled_after.Tie as tie
 pub settled-after-spec : {M : Type 1} → statement M
 unfolding choose
 settled-after-spec =
-    tie.close
-    (tie.spec
+    tie.close (tie.spec
     (λ c. rw (ne-eqb _ _ (c .if1 .taken)))
-    (λ c κs. search needs)
+    (search needs)
     (λ c. rw (eq-eqb _ _ (c .before .if1 .left)) (c .with-member .ensures)))

@@ -14,14 +14,10 @@ abbrev μ-loop : tie.MeasureT-loop
 
 pub about-of-spec : {M : Type 1} → statement M
 about-of-spec =
-    tie.close
-    (tie.spec
+    tie.close (tie.spec
     Inv-loop
     μ-loop
     (λ c. copied-none _ _ _ (omega arith))
-    (λ c. search needs)
-    (λ c. search needs)
-    (λ c. search needs)
-    (λ c. search needs)
+    (search needs) (search needs) (search needs) (search needs)
     (λ c. copied-more _ _ 0 (c .before .loop .inv) (search needs))
     (λ c. copied-all _ _ (c .before .loop .inv) (omega arith)))

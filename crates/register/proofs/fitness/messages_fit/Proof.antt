@@ -28,15 +28,10 @@ returns c =
 pub messages-fit-spec : {M : Type 1} → statement M
 unfolding all
 messages-fit-spec =
-    tie.close
-    (tie.spec
+    tie.close (tie.spec
     Inv-loop
     μ-loop
     (λ c. (search needs, refl))
-    (λ c. search needs)
-    (λ c. search needs)
-    (λ c κs. search needs)
-    (λ c. search needs)
-    (λ c. search needs)
+    (search needs) (search needs) (search needs) (search needs) (search needs)
     loop-again
     returns)

@@ -33,14 +33,10 @@ returns c =
 
 pub leader-table-spec : {M : Type 1} → statement M
 leader-table-spec =
-    tie.close
-    (tie.spec
+    tie.close (tie.spec
     Inv-loop
     μ-loop
     loop-holds
-    (λ c. search needs)
-    (λ c. search needs)
-    (λ c. search needs)
-    (λ c. search needs)
+    (search needs) (search needs) (search needs) (search needs)
     loop-again
     returns)

@@ -48,14 +48,12 @@ returns-2 c =
 pub is-fit-spec : {M : Type 1} → statement M
 unfolding fit conj both
 is-fit-spec =
-    tie.close
-    (tie.spec
-    (λ c κs. search needs)
-    (λ c κs. search needs)
+    tie.close (tie.spec
+    (search needs) (search needs)
     (λ c. rw (sym (answered (c .before)) ∙ not-true _ (c .if1 .taken)))
-    (λ c. search needs)
+    (search needs)
     (λ c κs. in-ranges (c .before .before .before) .schedule)
-    (λ c κs. search needs)
+    (search needs)
     (λ c. omega (arith, in-ranges (before-leaders (before-blocks (c .before .before .before))) .messages))
     (λ c κs. in-ranges (before-leaders (before-blocks (c .before .before .before))) .messages)
     (λ c κs. in-ranges (before-leaders (before-blocks (before-messages c))) .offices)

@@ -105,18 +105,15 @@ returns c =
 
 pub run-spec : {M : Type 1} → statement M
 run-spec =
-    tie.close
-    (tie.spec
+    tie.close (tie.spec
     Inv-loop
     μ-loop
     loop-holds
     (λ c. omega (arith, below c))
     (λ c. below c)
-    (λ c κs. search needs)
-    (λ c κs. search needs)
+    (search needs) (search needs)
     (λ c. c .place-of .ensures .1)
-    (λ c κs. search needs)
-    (λ c κs. search needs)
+    (search needs) (search needs)
     judge-requires
     (λ c. carried (c .before .before) .within .block)
     (λ c. omega (arith, carried (c .before .before) .within .block))
@@ -131,12 +128,12 @@ run-spec =
     (λ c. omega (arith, carried (c .before .before) .within .place))
     (λ c. carried (c .before .before) .within .place)
     (λ c. carried (c .before .before .before) .within .office)
-    (λ c κs. search needs)
+    (search needs)
     (λ c. below (judged-turn (c .before .before .before .before)))
     (λ c. omega (arith, below (judged-turn (c .before .before .before .before))))
     (λ c. below (judged-turn (c .before .before .before .before)))
     (λ c. omega (arith, below (judged-turn (c .before .before .before .before))))
     (λ c. omega (arith, judged-turn (c .before .before .before .before) .loop-test .taken))
     loop-again
-    (λ c κs. search needs)
+    (search needs)
     returns)

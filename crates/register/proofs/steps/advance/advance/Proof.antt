@@ -12,12 +12,8 @@ use Rattle.register.proofs.steps.advance.advance.Tie as tie
 pub advance-spec : {M : Type 1} → statement M
 unfolding ruleOf entriesOf advance
 advance-spec =
-    tie.close
-    (tie.spec
-    (λ c κs. search needs)
+    tie.close (tie.spec
+    (search needs)
     (λ c. c .refused .ensures ∙ refuses _ _ _ 24 (search turns depth 4) (λ e. omega arith))
-    (λ c. search needs)
-    (λ c κs. search needs)
-    (λ c. search needs)
-    (λ c κs. search needs)
+    (search needs) (search needs) (search needs) (search needs)
     (λ c. rw (c .accepted .ensures, c .before .timed .ensures) (accepts _ _ _ 0 (search turns depth 4) refl)))

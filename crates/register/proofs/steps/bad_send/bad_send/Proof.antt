@@ -11,15 +11,10 @@ use Rattle.register.proofs.steps.bad_send.bad_send.Tie as tie
 pub bad-send-spec : {M : Type 1} → statement M
 unfolding ruleOf entriesOf badSend sentStage
 bad-send-spec =
-    tie.close
-    (tie.spec
-    (λ c κs. search needs)
-    (λ c κs. search needs)
+    tie.close (tie.spec
+    (search needs) (search needs)
     (λ c. c .refused .ensures ∙ refuses _ _ _ _ (c .before .before .bad-send-refusal .ensures) (c .before .if1 .taken))
-    (λ c κs. search needs)
-    (λ c κs. search needs)
-    (λ c κs. search needs)
-    (λ c κs. search needs)
+    (search needs) (search needs) (search needs) (search needs)
     (λ c.
     rw (c .accepted .ensures, c .before .sent .ensures)
     (rw (c .before .before .is-vote .ensures, c .before .before .before .sent-place .ensures)

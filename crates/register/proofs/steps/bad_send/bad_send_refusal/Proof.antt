@@ -8,13 +8,12 @@ use Rattle.register.proofs.steps.bad_send.bad_send_refusal.Tie as tie
 pub bad-send-refusal-spec : {M : Type 1} → statement M
 unfolding badSend
 bad-send-refusal-spec =
-    tie.close
-    (tie.spec
+    tie.close (tie.spec
     (λ c. search answers depth 8)
     (λ c. search answers depth 8)
-    (λ c κs. search needs)
+    (search needs)
     (λ c. search answers depth 8)
-    (λ c κs. search needs)
+    (search needs)
     (λ c. search answers depth 8)
     (λ c. search answers depth 8)
     (λ c. search answers depth 8))

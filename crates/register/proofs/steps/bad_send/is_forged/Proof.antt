@@ -22,11 +22,8 @@ returns-2 c =
 
 pub is-forged-spec : {M : Type 1} → statement M
 is-forged-spec =
-    tie.close
-    (tie.spec
-    (λ c κs. search needs)
+    tie.close (tie.spec
+    (search needs)
     returns
-    (λ c. search needs)
-    (λ c κs. search needs)
-    (λ c κs. search needs)
+    (search needs) (search needs) (search needs)
     returns-2)

@@ -8,10 +8,9 @@ use Rattle.register.proofs.steps.deliver.deliver_refusal.Tie as tie
 pub deliver-refusal-spec : {M : Type 1} → statement M
 unfolding deliver
 deliver-refusal-spec =
-    tie.close
-    (tie.spec
+    tie.close (tie.spec
     (λ c. search turns depth 6)
     (λ c. search turns depth 6)
-    (λ c κs. search needs)
+    (search needs)
     (λ c. search turns depth 6)
     (λ c. search turns depth 6))

@@ -8,11 +8,10 @@ use Rattle.register.proofs.steps.finalise.finalise_refusal.Tie as tie
 pub finalise-refusal-spec : {M : Type 1} → statement M
 unfolding finalise
 finalise-refusal-spec =
-    tie.close
-    (tie.spec
+    tie.close (tie.spec
     (λ c. search turns depth 7)
     (λ c. search turns depth 7)
-    (λ c κs. search needs)
+    (search needs)
     (λ c. search turns depth 7)
     (λ c κs.
     let given = c .before .before .before .before .before .before .before .before .pre in

@@ -29,12 +29,8 @@ returns-2 c =
 
 pub is-final-spec : {M : Type 1} → statement M
 is-final-spec =
-    tie.close
-    (tie.spec
-    (λ c κs. search needs)
-    (λ c κs. search needs)
-    (λ c κs. search needs)
+    tie.close (tie.spec
+    (search needs) (search needs) (search needs)
     returns
-    (λ c. search needs)
-    (λ c κs. search needs)
+    (search needs) (search needs)
     returns-2)

@@ -8,13 +8,6 @@ use Rattle.register.proofs.steps.judge.unchanged.Tie as tie
 pub unchanged-spec : {M : Type 1} → statement M
 unfolding unchangedOf
 unchanged-spec =
-    tie.close
-    (tie.spec
-    (λ c. search needs)
-    (λ c. search needs)
-    (λ c. search needs)
-    (λ c. search needs)
-    (λ c. search needs)
-    (λ c. search needs)
-    (λ c. search needs)
+    tie.close (tie.spec
+    (search needs) (search needs) (search needs) (search needs) (search needs) (search needs) (search needs)
     (λ c. refl))

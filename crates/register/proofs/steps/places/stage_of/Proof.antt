@@ -22,13 +22,9 @@ returns-3 c =
 pub stage-of-spec : {M : Type 1} → statement M
 unfolding stage choose
 stage-of-spec =
-    tie.close
-    (tie.spec
+    tie.close (tie.spec
     (λ c. rw (le-ltb _ _ (c .if1 .taken), both-none))
-    (λ c κs. search needs)
+    (search needs)
     returns-2
-    (λ c. search needs)
-    (λ c. search needs)
-    (λ c. search needs)
-    (λ c κs. search needs)
+    (search needs) (search needs) (search needs) (search needs)
     returns-3)

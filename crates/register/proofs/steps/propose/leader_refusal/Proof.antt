@@ -10,14 +10,13 @@ use Rattle.register.proofs.steps.propose.leader_refusal.Tie as tie
 pub leader-refusal-spec : {M : Type 1} → statement M
 unfolding propose until choose
 leader-refusal-spec =
-    tie.close
-    (tie.spec
+    tie.close (tie.spec
     (λ c. search turns depth 8)
     (λ c. search turns depth 8)
-    (λ c κs. search needs)
+    (search needs)
     (λ c. search turns depth 8)
-    (λ c κs. search needs)
+    (search needs)
     (λ c. search turns depth 8)
-    (λ c κs. search needs)
+    (search needs)
     (λ c. search turns depth 8)
     (λ c. search turns depth 8))

@@ -22,9 +22,8 @@ extending-refusal-requires c κs = (
 pub parent-refusal-spec : {M : Type 1} → statement M
 unfolding propose until since choose positive both
 parent-refusal-spec =
-    tie.close
-    (tie.spec
-    (λ c κs. search needs)
+    tie.close (tie.spec
+    (search needs)
     (λ c. early 19 _ _ (c .before .leader-refusal .ensures) (c .if1 .taken))
     extending-refusal-requires
     (λ c.

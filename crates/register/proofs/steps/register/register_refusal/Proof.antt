@@ -9,16 +9,14 @@ use Rattle.register.proofs.steps.register.register_refusal.Tie as tie
 pub register-refusal-spec : {M : Type 1} → statement M
 unfolding register stage signed
 register-refusal-spec =
-    tie.close
-    (tie.spec
+    tie.close (tie.spec
     (λ c. search turns depth 9)
     (λ c. search turns depth 9)
-    (λ c κs. search needs)
+    (search needs)
     (λ c. search turns depth 9)
-    (λ c κs. search needs)
+    (search needs)
     (λ c. search turns depth 9)
-    (λ c. search needs)
-    (λ c. search needs)
+    (search needs) (search needs)
     (λ c. search turns depth 9)
     (λ c κs.
     let at = c .before .before .before .before .before in

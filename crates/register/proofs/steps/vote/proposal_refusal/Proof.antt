@@ -34,21 +34,19 @@ past c x rest = search turns depth 9
 pub proposal-refusal-spec : {M : Type 1} → statement M
 unfolding vote until since choose stage
 proposal-refusal-spec =
-    tie.close
-    (tie.spec
+    tie.close (tie.spec
     (λ c. search turns depth 9)
     (λ c. search turns depth 9)
-    (λ c κs. search needs)
+    (search needs)
     (λ c. search turns depth 9)
-    (λ c κs. search needs)
+    (search needs)
     (λ c. search turns depth 9)
-    (λ c κs. search needs)
+    (search needs)
     (λ c. search turns depth 9)
-    (λ c κs. search needs)
+    (search needs)
     (λ c. search turns depth 9)
-    (λ c. search needs)
-    (λ c. search needs)
+    (search needs) (search needs)
     (λ c. past (c .before .before .before) _ (search turns depth 4))
-    (λ c κs. search needs)
+    (search needs)
     (λ c. past (c .before .before .before .before .before) _ (search turns depth 4))
     (λ c. past (c .before .before .before .before .before) _ (search turns depth 4)))

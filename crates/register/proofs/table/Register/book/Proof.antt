@@ -17,11 +17,6 @@ returns c =
 
 pub book-spec : {M : Type 1} → statement M
 book-spec =
-    tie.close
-    (tie.spec
-    (λ c κs. search needs)
-    (λ c κs. search needs)
-    (λ c κs. search needs)
-    (λ c κs. search needs)
-    (λ c κs. search needs)
+    tie.close (tie.spec
+    (search needs) (search needs) (search needs) (search needs) (search needs)
     returns)
