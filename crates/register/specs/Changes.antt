@@ -10,7 +10,7 @@ use Rattle.words.specs.Digits.{withMember, withStage}
 use Rattle.words.specs.Refusals.{first}
 use Rattle.tables.specs.Messages.{inbox, view}
 use Rattle.register.specs.Types.{Office, Block, Step, Header, OfficeState, Book, Clock, BlockEntry, MessageEntry, PlaceEntry, OfficeEntry, Answer, Change}
-use Rattle.register.specs.Books.{epoch, block}
+use Rattle.register.specs.Books.{office, epoch, block}
 use Rattle.register.specs.Tables.{stateIn, stateOf, headerOf, parentOf, named, isVote, aboutOf}
 use Rattle.register.specs.Effects.{sentPlace, finalising}
 use Rattle.register.specs.Steps.{ruleOf}
@@ -26,7 +26,7 @@ unchangedOf r at state =
             count = r .count;
             at = 0;
             vote = getD (r .votes) 0 false;
-            signer = record { 0 = getD (r .signers) 0 0 };
+            signer = office (getD (r .signers) 0 0);
             about = block (getD (r .about) 0 0);
             place = getD (r .places) 0 0;
           };
