@@ -1,0 +1,151 @@
+-- A run with a fork and a bad leader, of which the premises of agreement hold: the claim speaks of it, and says something. All that is told of it is
+-- computed from the rules.
+use Prim.Native.Nat.{ℕ}
+use mathlib.Core.Path.{_≡_, refl}
+use mathlib.Core.List.{List, [], _∷_, map}
+use native.Mathlib.Omega.{arith}
+use lib.ListN.{length, replicate}
+use Rattle.words.specs.Tests.{choose, both, either, between, conj, all, any, lowest, every, member}
+use Rattle.words.specs.Sums.{tally, weigh, unit}
+use Rattle.words.specs.Digits.{digit, fill, withMember, withStage}
+use Rattle.words.specs.Refusals.{first}
+use Rattle.quorum.specs.Enough.{enough}
+use Rattle.quorum.specs.Opening.{untrusted, tooMany, stray, openingRefusal}
+use Rattle.tables.specs.Blocks.{trustedIn, madeIn, parentIn, epochIn, matchesIn, namedIn}
+use Rattle.tables.specs.Messages.{saysIn}
+use Rattle.tables.specs.Chains.{climb, chainBy}
+use Rattle.register.specs.declared.sorts.Message.{Message}
+use Rattle.register.specs.declared.sorts.Kind.the-variants as kinds
+use Rattle.register.specs.declared.step.Step.{Step}
+use Rattle.register.specs.declared.step.Step.the-variants as steps
+use Rattle.register.specs.declared.table.Stepped.{Stepped}
+use Rattle.register.specs.Books.{office, epoch, block, bookOf, registerOf}
+use Rattle.register.specs.Tables.{isVote}
+use Rattle.register.specs.Views.{stage, signed, notarised}
+use Rattle.register.specs.Chains.{chain, begins, chainNotarised, longest}
+use Rattle.register.specs.Fitness.{countsFit, blockFits, messageFits, stateFits, fit}
+use Rattle.register.specs.Refusals.{finalises}
+use Rattle.register.specs.Opening.{leaderTable, blank, freshBook, fresh, opening}
+use Rattle.register.specs.Effects.{withBlock, withNamed, sentStage, withSent, withMoved, withActed, withState, withNextEpoch}
+use Rattle.register.specs.Steps.{propose, vote, register, finalise, deliver, badSend, draft, advance, ruleOf, refusal, judged, bookRule, stepRule}
+use Rattle.register.specs.Runs.{afterSteps, answers, Run, opened, moment}
+use Rattle.agreement.specs.Claim.{chainOf, finalChain, Trusted, Notarised, Begins, AtLeastAsLong, Agreement}
+use Rattle.agreement.proofs.Agreement.{agreement}
+
+abbrev message : ℕ → Message
+message m = record { 0 = m }
+
+-- the steps of the run, epoch by epoch
+unfoldable pub fork-steps : List Step
+fork-steps =
+    -- epoch 1: the leader, office 3, drafts blocks 1 and 2 and proposes both; offices 0 and 1 vote for the one, office 2 for the other
+    steps.Draft (block 0) (epoch 1) 1
+    ∷ steps.Draft (block 0) (epoch 1) 2
+    ∷ steps.BadSend (office 3) kinds.Proposal (office 3) (block 1)
+    ∷ steps.BadSend (office 3) kinds.Proposal (office 3) (block 2)
+    ∷ steps.Deliver (message 0) (office 0)
+    ∷ steps.Vote (office 0) (message 0)
+    ∷ steps.Deliver (message 0) (office 1)
+    ∷ steps.Vote (office 1) (message 0)
+    ∷ steps.Deliver (message 1) (office 2)
+    ∷ steps.Vote (office 2) (message 1)
+    -- office 0 learns of office 1's vote: in its view block 1 is notarised, by 3, 0 and 1
+    ∷ steps.Deliver (message 3) (office 0)
+    ∷ steps.Register (office 0) (message 3)
+    ∷ steps.Advance
+    -- epoch 2: office 2, which has heard of no notarised block, proposes block 3 on genesis; office 1 and office 3 vote for it, and 1 and 2 see it notarised
+    ∷ steps.Propose (office 2) (block 0) 3
+    ∷ steps.Deliver (message 5) (office 1)
+    ∷ steps.Vote (office 1) (message 5)
+    ∷ steps.BadSend (office 3) kinds.Vote (office 3) (block 3)
+    ∷ steps.Deliver (message 7) (office 1)
+    ∷ steps.Register (office 1) (message 7)
+    ∷ steps.Deliver (message 6) (office 2)
+    ∷ steps.Register (office 2) (message 6)
+    ∷ steps.Deliver (message 7) (office 2)
+    ∷ steps.Register (office 2) (message 7)
+    ∷ steps.Advance
+    -- epoch 3: office 1 proposes block 4 on block 3; offices 2 and 3 vote for it, and 1 and 2 see it notarised
+    ∷ steps.Propose (office 1) (block 3) 4
+    ∷ steps.Deliver (message 8) (office 2)
+    ∷ steps.Vote (office 2) (message 8)
+    ∷ steps.BadSend (office 3) kinds.Vote (office 3) (block 4)
+    ∷ steps.Deliver (message 9) (office 1)
+    ∷ steps.Register (office 1) (message 9)
+    ∷ steps.Deliver (message 10) (office 1)
+    ∷ steps.Register (office 1) (message 10)
+    ∷ steps.Deliver (message 10) (office 2)
+    ∷ steps.Register (office 2) (message 10)
+    ∷ steps.Advance
+    -- epoch 4: office 2 proposes block 5 on block 4; offices 1 and 3 vote for it
+    ∷ steps.Propose (office 2) (block 4) 5
+    ∷ steps.Deliver (message 11) (office 1)
+    ∷ steps.Vote (office 1) (message 11)
+    ∷ steps.BadSend (office 3) kinds.Vote (office 3) (block 5)
+    -- moment 41: office 1 sees it notarised
+    ∷ steps.Deliver (message 13) (office 1)
+    ∷ steps.Register (office 1) (message 13)
+    -- moment 46: so does office 2, and makes block 4 final
+    ∷ steps.Deliver (message 12) (office 2)
+    ∷ steps.Register (office 2) (message 12)
+    ∷ steps.Deliver (message 13) (office 2)
+    ∷ steps.Register (office 2) (message 13)
+    ∷ steps.Finalise (office 2) (block 5)
+    ∷ []
+
+-- four offices, of which office 3 is not trusted, and four epochs, led by 3, 2, 1 and 2
+pub fork-opens : opening 4 7 (3 ∷ 2 ∷ 1 ∷ 2 ∷ []) .refusal ≡ 0
+unfolding opening openingRefusal first choose both either between any stray tooMany untrusted tally weigh unit digit
+fork-opens = refl
+
+unfoldable pub fork : Run
+fork = record { n = 4; trust = 7; schedule = 3 ∷ 2 ∷ 1 ∷ 2 ∷ []; accepted = fork-opens; steps = fork-steps }
+
+-- what the run shows: every step is accepted; at the end office 2's final chain is that of block 4; before, at moment 41, the longer chain of block 5
+-- is notarised in office 1's view; and at the end the chain of block 1, which forks off from both, is notarised in office 0's
+pub record Forked : Type 0 where
+  pub accepted : map (λ (s : Stepped). s .refusal) (answers (opened fork) (fork .steps)) ≡ replicate 46 0
+  pub finalist : Trusted (moment fork 46) (office 2)
+  pub final : finalChain (moment fork 46) (office 2) ≡ 4 ∷ 3 ∷ []
+  pub viewer : Trusted (moment fork 41) (office 1)
+  pub notarised : Notarised (moment fork 41) (office 1) (block 5)
+  pub longer : chainOf (moment fork 41) (block 5) ≡ 5 ∷ 4 ∷ 3 ∷ []
+  pub other : Trusted (moment fork 46) (office 0)
+  pub forked : Notarised (moment fork 46) (office 0) (block 1)
+  pub shorter : chainOf (moment fork 46) (block 1) ≡ 1 ∷ []
+
+-- it does, as the rules compute
+pub fork-shows : Forked
+unfolding finalChain chainOf Trusted Notarised moment fork fork-steps answers afterSteps stepRule bookOf registerOf opened opening fresh openingRefusal untrusted tooMany stray choose both either between conj all any lowest every tally weigh unit digit fill withMember withStage first enough trustedIn madeIn parentIn epochIn matchesIn namedIn saysIn climb chainBy isVote stage signed notarised chain chainNotarised longest countsFit blockFits messageFits stateFits fit finalises leaderTable blank freshBook withBlock withNamed sentStage withSent withMoved withActed withState withNextEpoch propose vote register finalise deliver badSend draft advance ruleOf refusal judged bookRule
+fork-shows =
+    record {
+      accepted = refl;
+      finalist = refl;
+      final = refl;
+      viewer = refl;
+      notarised = refl;
+      longer = refl;
+      other = refl;
+      forked = refl;
+      shorter = refl;
+    }
+
+-- so the premises of agreement hold, of two offices and two moments
+pub fork-run : AtLeastAsLong fork 46 41 (office 2) (office 1) (block 5)
+fork-run =
+    record {
+      finalist = fork-shows .finalist;
+      viewer = fork-shows .viewer;
+      notarised = fork-shows .notarised;
+      long = rw (fork-shows .final, fork-shows .longer) (omega arith);
+    }
+
+-- and agreement says that the final chain begins the longer one
+pub fork-agrees : Begins (4 ∷ 3 ∷ []) (5 ∷ 4 ∷ 3 ∷ [])
+unfolding Agreement
+fork-agrees = rw (fork-shows .final, fork-shows .longer) at (agreement fork 46 41 (office 2) (office 1) (block 5) fork-run)
+
+-- It does not begin the chain that forks off, though that is notarised in a trusted office's view: of shorter chains the claim would be false.
+pub fork-parts : Begins (finalChain (moment fork 46) (office 2)) (chainOf (moment fork 46) (block 1)) → ⊥
+unfolding Begins begins member either
+fork-parts = rw (fork-shows .final, fork-shows .shorter) (λ b. let never : _≡_ {A = ℕ} 0 1 = cc in omega arith)
