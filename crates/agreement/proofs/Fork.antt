@@ -4,7 +4,7 @@ use Prim.Native.Nat.{ℕ}
 use mathlib.Core.Path.{_≡_, refl}
 use mathlib.Core.List.{List, [], _∷_, map}
 use native.Mathlib.Omega.{arith}
-use lib.ListN.{length, replicate}
+use lib.ListN.{replicate}
 use Rattle.words.specs.Tests.{choose, both, either, between, conj, all, any, lowest, every, member}
 use Rattle.words.specs.Sums.{tally, weigh, unit}
 use Rattle.words.specs.Digits.{digit, fill, withMember, withStage}

@@ -13,7 +13,7 @@ use Rattle.register.specs.Books.{bookOf}
 use Rattle.register.specs.Tables.{trusted, finalOf}
 use Rattle.register.specs.Chains.{chain, begins, chainNotarised}
 use Rattle.register.specs.Opening.{opening}
-use Rattle.register.specs.Runs.{afterSteps, Run, opened, moment}
+use Rattle.register.specs.Runs.{afterSteps, Run, moment}
 use Rattle.register.proofs.Chains.{chain-step, on-chain-le}
 use Rattle.agreement.specs.Claim.{chainOf, finalChain, Trusted, Notarised, Begins, Agreement, HandedOn}
 use Rattle.agreement.proofs.Agreement.{agreement}

@@ -1,8 +1,5 @@
 -- The laws of the definitions in specs/, by topic.
 pub mod TextLaws
-pub mod BodyLaws
-pub mod PartLaws
-pub mod RunLaws
 pub mod RunText
 pub mod CheckLaws
 pub mod Claims

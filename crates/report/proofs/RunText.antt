@@ -1,25 +1,75 @@
--- The text of a run, written part by part.
-use Prim.Native.Nat.{ℕ, _+_, _*_, _≤_, min}
+-- The text of a run: its lines, those of a batch that was run, and all of it written part by part.
+use Prim.Native.Nat.{ℕ, zero, suc, _+_, _*_, _≤_, _<_, min}
 use mathlib.Core.Path.{_≡_, refl, sym, ap, _∙_}
 use mathlib.Core.Bool.{true, false}
-use mathlib.Core.List.{List, [], _∷_, _++_, append-assoc}
+use mathlib.Core.List.{List, [], _∷_, _++_, map, append-assoc, append-nil}
+use native.Mathlib.Nat.{add-zero}
 use native.Mathlib.Omega.{arith}
-use lib.ListN.{length, take, drop, length-take, length-drop, take-append-drop}
+use lib.ListN.{length, getD, take, drop, length-take, length-drop, length-map, take-append-drop, List·getD-append, List·getD-map}
+use lib.Seq.{take-suc, take-all, length-take-le}
 use Rattle.words.specs.Tests.{choose}
 use Rattle.register.specs.declared.sorts.Block.{Block}
 use Rattle.register.specs.declared.step.Step.{Step}
 use Rattle.register.specs.declared.table.Register.{Register}
+use Rattle.register.specs.declared.table.Stepped.{Stepped}
 use Rattle.register.specs.declared.table.Ran.{Ran}
 use Rattle.register.specs.Books.{block, bookOf}
 use Rattle.register.specs.Tables.{trusted, finalOf, finalFor}
 use Rattle.register.specs.Chains.{lengthOf}
-use Rattle.register.specs.Runs.{afterSteps, answers, ran}
-use Rattle.register.proofs.Running.{length-answers}
+use Rattle.register.specs.Runs.{afterSteps, answers, padded, ran}
+use Rattle.register.proofs.Running.{after-append, answers-append, length-answers}
 use Rattle.report.specs.Text.{TextWritten, officeLine}
 use Rattle.report.specs.Reports.{stepLines, officeText, officeLines, runLines}
 use Rattle.report.specs.Batches.{batchLines}
-use Rattle.report.proofs.TextLaws.{then}
-use Rattle.report.proofs.RunLaws.{run-append, ran-lines}
+use Rattle.report.proofs.TextLaws.{then, same-size}
+
+-- the lines of answers in two parts
+lines-append : (place : ℕ) (xs ys : List Stepped) → stepLines place (xs ++ ys) ≡ stepLines place xs ++ stepLines (place + length xs) ys
+unfolding stepLines
+lines-append place [] ys = rw add-zero
+lines-append place (x ∷ xs) ys =
+    let next : place + 1 + length xs ≡ place + suc (length xs) = omega arith in
+    rw (lines-append (place + 1) xs ys, next, append-assoc)
+
+-- the lines of steps in two parts: those of the first, and then those of the second from where the first left off
+run-append : (r : Register) (place : ℕ) (xs ys : List Step)
+    → runLines r place (xs ++ ys) ≡ stepLines place (answers r xs) ++ runLines (afterSteps r xs) (place + length xs) ys
+unfolding runLines
+run-append r place xs ys =
+    rw (answers-append r xs ys, after-append r xs ys, lines-append place (answers r xs) (answers (afterSteps r xs) ys), length-answers r xs, append-assoc)
+
+-- a number of a batch's table is that of its answer
+number-at : (f : Stepped → ℕ) (ss : List Stepped) (i : ℕ) (d : Stepped) → f d ≡ 0 → i < length ss
+    → getD (padded (map f ss)) i 0 ≡ f (getD ss i d)
+unfolding padded
+number-at f ss i d none l =
+    List·getD-append (map f ss) _ 0 i (rw length-map l) ∙ ap (getD (map f ss) i) (sym none) ∙ List·getD-map f ss i d
+
+-- the first lines of a batch are those of its first answers
+lines-first : (place : ℕ) (ss : List Stepped) (d : Stepped) → d .refusal ≡ 0 → d .value ≡ 0 → (i : ℕ) → i ≤ length ss
+    → batchLines place (padded (map (λ (s : Stepped). s .refusal) ss)) (padded (map (λ (s : Stepped). s .value) ss)) i
+    ≡ stepLines place (take i ss)
+unfolding batchLines stepLines
+lines-first place ss d k v zero h = refl
+lines-first place ss d k v (suc i) h =
+    let long : length (take i ss) ≡ i = length-take-le i ss (omega arith) in
+    rw (
+      take-suc ss i d (omega arith),
+      lines-append place (take i ss) (getD ss i d ∷ []),
+      long,
+      lines-first place ss d k v i (omega arith),
+      number-at (λ (s : Stepped). s .refusal) ss i d k (omega arith),
+      number-at (λ (s : Stepped). s .value) ss i d v (omega arith),
+      append-nil,
+    )
+
+-- the lines of a batch that was run are those of its answers
+ran-lines : (r : Register) (place : ℕ) (ss : List Stepped)
+    → batchLines place (padded (map (λ (s : Stepped). s .refusal) ss)) (padded (map (λ (s : Stepped). s .value) ss)) (length ss)
+    ≡ stepLines place ss
+ran-lines r place ss =
+    lines-first place ss (record { register = r; refusal = 0; value = 0 }) refl refl (length ss) (omega arith)
+    ∙ ap (stepLines place) (take-all (length ss) ss (omega arith))
 
 -- an office that is not trusted has no line
 pub office-none : (r : Register) (q : ℕ) → trusted (bookOf r) q ≡ false → officeText r q ≡ []
@@ -34,41 +84,32 @@ office-some r q size last h e long =
     let is : last ≡ block (finalOf (bookOf r) q) = e ∙ rw h in
     rw (long, is, h)
 
--- how far a run has come: `done` is written, and the lines of the rest of the steps, from this register on, are still to come
+-- how far a run has come: with the lines of the rest of the steps, from this register on, the whole text is written
 pub record SoFar (before report whole : List ℕ) (next place : ℕ) (r : Register) (rest : List Step) : Type 0 where
-  pub done : List ℕ
-  pub text : whole ≡ done ++ runLines r place rest
-  pub written : TextWritten before 0 done next report
+  pub sized : length report ≡ length before
+  pub finish : {after : List ℕ} {later : ℕ} → TextWritten report next (runLines r place rest) later after → TextWritten before 0 whole later after
   pub short : next + 17 ≤ 17 * place
   pub few : place + length rest ≤ 131073
 
 -- nothing is written yet
 pub run-begins : (before : List ℕ) (r : Register) (rest : List Step) → length rest ≤ 131072
     → SoFar before before (runLines r 1 rest) 0 1 r rest
-run-begins before r rest few =
-    record { done = []; text = refl; written = record { counted = refl; laid = refl }; short = omega arith; few = omega arith }
+run-begins before r rest few = record { sized = refl; finish = λ lines. lines; short = omega arith; few = omega arith }
 
-module _ (r : Register) (place : ℕ) (rest batch : List Step) (count : ℕ) (given : Ran)
-    (counts : count ≡ min 256 (length rest)) (holds : take count batch ≡ take 256 rest) (room : length batch ≡ 256)
-    (runs : given ≡ ran r (take (min count 256) batch))
+module _ (r : Register) (place : ℕ) (rest : List Step) (count : ℕ) (given : Ran)
+    (counts : count ≡ min 256 (length rest)) (runs : given ≡ ran r (take 256 rest))
   where
-    -- the part is run
-    all-run : given ≡ ran r (take 256 rest)
-    all-run =
-        let same : min count 256 ≡ count = omega arith in
-        runs ∙ ap (λ (k : ℕ). ran r (take k batch)) same ∙ ap (ran r) holds
-
     -- the register behind the part
     part-register : given .register ≡ afterSteps r (take 256 rest)
     unfolding ran
-    part-register = ap (λ (x : Ran). x .register) all-run
+    part-register = ap (λ (x : Ran). x .register) runs
 
     -- the lines of the part
     part-lines : batchLines place (given .refusals) (given .values) count ≡ stepLines place (answers r (take 256 rest))
     unfolding ran
     part-lines =
         let long : count ≡ length (answers r (take 256 rest)) = counts ∙ sym (length-answers r (take 256 rest) ∙ length-take 256 rest) in
-        rw (all-run, long) (ran-lines r place (answers r (take 256 rest)))
+        rw (runs, long) (ran-lines r place (answers r (take 256 rest)))
 
     -- the text from here on is those lines, and then that from behind the part on
     part-text : runLines r place rest
@@ -82,26 +123,18 @@ module _ (r : Register) (place : ℕ) (rest batch : List Step) (count : ℕ) (gi
     pub run-goes-on : {before report after whole : List ℕ} {next later : ℕ} → SoFar before report whole next place r rest
         → TextWritten report next (batchLines place (given .refusals) (given .values) count) later after → later ≤ next + 17 * count
         → SoFar before after whole later (place + count) (given .register) (drop 256 rest)
-    run-goes-on {before} {report} {after} {whole} {next} {later} so-far lines short =
-        let ls : List ℕ = batchLines place (given .refusals) (given .values) count in
-        let tail : List ℕ = runLines (given .register) (place + count) (drop 256 rest) in
+    run-goes-on so-far lines short =
         record {
-          done = so-far .done ++ ls;
-          text = so-far .text ∙ ap (λ (t : List ℕ). so-far .done ++ t) part-text ∙ sym (append-assoc (so-far .done) ls tail);
-          written = then (so-far .written) lines;
+          sized = same-size lines ∙ so-far .sized;
+          finish = λ tail. so-far .finish (rw part-text (then lines tail));
           short = omega (arith, so-far .short);
           few = simp length-drop (omega (arith, so-far .few));
         }
 
--- where no step is left, the lines of the offices are still to come
-offices-left : (r : Register) (place : ℕ) (rest : List Step) → length rest ≡ 0 → runLines r place rest ≡ officeLines r 32
-unfolding runLines answers stepLines afterSteps
-offices-left r place [] none = refl
-offices-left r place (s ∷ rest) none = absurd (omega arith)
-
--- with them a run ends
-pub run-ends : {before report after whole : List ℕ} {next later place : ℕ} {r : Register} {rest : List Step}
+-- where no step is left, the lines of the offices are still to come, and with them the run ends
+pub run-ends : {before report after whole : List ℕ} {next later place : ℕ} {r : Register} (rest : List Step)
     → SoFar before report whole next place r rest → length rest ≡ 0 → TextWritten report next (officeLines r 32) later after
     → TextWritten before 0 whole later after
-run-ends {place = place} {r = r} {rest = rest} so-far none lines =
-    rw (so-far .text, offices-left r place rest none) (then (so-far .written) lines)
+unfolding runLines answers stepLines afterSteps
+run-ends [] so-far none lines = so-far .finish lines
+run-ends (s ∷ rest) so-far none lines = absurd (omega arith)

@@ -1,12 +1,11 @@
 -- Laws of text that is written piece by piece, of numbers in decimal, and of how long the lines are.
 use Prim.Native.Nat.{ℕ, zero, suc, _+_, _*_, _-_, _/_, _%_, _^_, _≤_, _<_}
 use mathlib.Core.Path.{_≡_, ap, _∙_}
-use mathlib.Core.Bool.{Bool, true, false}
 use mathlib.Core.List.{List, [], _∷_, _++_}
+use native.Mathlib.Decide.{decLt}
 use native.Mathlib.Nat.{add-assoc, add-suc, add-zero, one-le-pow, pow-succ', suc-add, zero-add}
 use native.Mathlib.Omega.{arith}
 use borrow.Author.Tests.{lt-ltb, le-ltb}
-use lib.Dec.{ltb}
 use lib.ListN.{length, drop, set, length-append}
 use lib.Seq.{sets, sets-eq, length-sets, set-comm}
 use Rattle.words.specs.Tests.{choose}
@@ -66,66 +65,43 @@ last-first l p place n fits h at-end =
     let here : place - 1 ≡ p + length (decimal (n / 10)) = omega (arith, decimal-longer n fits h) in
     rw (here, decimal-more n fits h) (byte-first l p (decimal (n / 10)) (48 + n % 10))
 
--- one digit alone, or one digit behind others: at least one, and at most one more than the others
-chosen-size : (b : Bool) (x y : ℕ) (t : List ℕ)
-    → (0 < length (choose b (x ∷ []) (t ++ (y ∷ [])))) × (length (choose b (x ∷ []) (t ++ (y ∷ []))) ≤ length t + 1)
-unfolding choose
-chosen-size true x y t = (omega arith, omega arith)
-chosen-size false x y t = rw length-append (omega arith, omega arith)
-
--- whatever the most of its digits, a number below 10 ^ (k + 1) has at most k + 1
-digits-short : (most k n : ℕ) → n < 10 ^ suc k → length (digitsBy most n) ≤ suc k
-unfolding digitsBy choose
-digits-short zero k n h = omega arith
-digits-short (suc most) zero n h = rw (lt-ltb n 10 h) (omega arith)
-digits-short (suc most) (suc k) n h =
-    omega (
-      arith,
-      chosen-size (ltb n 10) (48 + n) (48 + n % 10) (digitsBy most (n / 10)) .1,
-      digits-short most k (n / 10) (shorter (suc k) n h),
-    )
+-- a number in decimal has a digit, and at most one more than its tenth
+pub decimal-some : (n : ℕ) → n < 2 ^ 64 → (0 < length (decimal n)) × (length (decimal n) ≤ length (decimal (n / 10)) + 1)
+decimal-some n fits = by (decLt n 10)
+  where
+    by : Dec (n < 10) → (0 < length (decimal n)) × (length (decimal n) ≤ length (decimal (n / 10)) + 1)
+    by (yes h) = rw (decimal-one n h) (omega arith, omega arith)
+    by (no h) = rw (decimal-longer n fits (omega arith)) (omega arith, omega arith)
 
 -- a number below 10 ^ (k + 1) has at most k + 1 digits in decimal
-pub decimal-short : (k n : ℕ) → n < 10 ^ suc k → length (decimal n) ≤ suc k
-unfolding decimal
-decimal-short k n h = digits-short 20 k n h
+pub decimal-short : (k n : ℕ) → n < 2 ^ 64 → n < 10 ^ suc k → length (decimal n) ≤ suc k
+decimal-short zero n fits h = rw (decimal-one n h) (omega arith)
+decimal-short (suc k) n fits h = omega (arith, decimal-some n fits .1, decimal-short k (n / 10) (omega arith) (shorter (suc k) n h))
 
--- a number in decimal has a digit
-pub decimal-some : (n : ℕ) → 0 < length (decimal n)
-unfolding decimal digitsBy
-decimal-some n = chosen-size (ltb n 10) (48 + n) (48 + n % 10) (digitsBy 19 (n / 10)) .0
-
--- a number from 10 ^ k on has more than k digits, where there is room for them
-digits-long : (most k n : ℕ) → k < most → 10 ^ k ≤ n → suc k ≤ length (digitsBy most n)
-unfolding digitsBy choose
-digits-long zero k n room h = absurd (omega arith)
-digits-long (suc most) zero n room h =
-    omega (arith, chosen-size (ltb n 10) (48 + n) (48 + n % 10) (digitsBy most (n / 10)) .0)
-digits-long (suc most) (suc k) n room h =
+-- a number from 10 ^ k on has more than k
+pub decimal-long : (k n : ℕ) → n < 2 ^ 64 → 10 ^ k ≤ n → suc k ≤ length (decimal n)
+decimal-long zero n fits h = decimal-some n fits .0
+decimal-long (suc k) n fits h =
     let e : 10 ^ suc k ≡ 10 * 10 ^ k = pow-succ' 10 k in
     let some : 0 < 10 ^ k = one-le-pow k 10 (omega arith) in
-    rw (le-ltb n 10 (omega arith), length-append) (omega (arith, digits-long most k (n / 10) (omega arith) (omega arith)))
-
--- a number from 10 ^ k on has more than k digits in decimal
-pub decimal-long : (k n : ℕ) → k < 20 → 10 ^ k ≤ n → suc k ≤ length (decimal n)
-unfolding decimal
-decimal-long k n room h = digits-long 20 k n room h
+    rw (decimal-longer n fits (omega arith)) (omega (arith, decimal-long k (n / 10) (omega arith) (omega arith)))
 
 -- three numbers on a line, which are below powers of ten: how long they are at most
-three-size : (i j k a b c : ℕ) → a < 10 ^ suc i → b < 10 ^ suc j → c < 10 ^ suc k → length (threeNumbers a b c) ≤ i + j + k + 6
+three-size : (i j k a b c : ℕ) → a + b + c < 2 ^ 64 → a < 10 ^ suc i → b < 10 ^ suc j → c < 10 ^ suc k
+    → length (threeNumbers a b c) ≤ i + j + k + 6
 unfolding threeNumbers numberThen
-three-size i j k a b c x y z =
+three-size i j k a b c fit x y z =
     let long : length (threeNumbers a b c) ≡ length (decimal a) + length (decimal b) + length (decimal c) + 3 = simp length-append (omega arith) in
-    omega (arith, decimal-short i a x, decimal-short j b y, decimal-short k c z)
+    omega (arith, decimal-short i a (omega arith) x, decimal-short j b (omega arith) y, decimal-short k c (omega arith) z)
 
 -- the line of a step is at most 17 bytes long
 pub step-line-size : (place refusal value : ℕ) → place ≤ 131072 → refusal < 256 → value < 65536 → length (stepLine place refusal value) ≤ 17
 step-line-size place refusal value p r v =
-    three-size 5 2 4 place refusal value (omega arith) (omega arith) (omega arith)
+    three-size 5 2 4 place refusal value (omega arith) (omega arith) (omega arith) (omega arith)
 
 -- the line of an office is at most 18 bytes long
 pub office-line-size : (office final size : ℕ) → office < 32 → final < 256 → size < 256 → length (officeLine office final size) ≤ 18
 unfolding officeLine
 office-line-size office final size o f s =
     let long : length (officeLine office final size) ≡ 7 + length (threeNumbers office final size) = simp length-append in
-    omega (arith, three-size 1 2 2 office final size (omega arith) (omega arith) (omega arith))
+    omega (arith, three-size 1 2 2 office final size (omega arith) (omega arith) (omega arith) (omega arith))

@@ -1,7 +1,5 @@
 -- The report of a log. Read in this order.
 pub mod Text
-pub mod Bodies
-pub mod Parts
 pub mod Reports
 pub mod Claims
 pub mod Batches

@@ -13,8 +13,8 @@ use Rattle.register.specs.Tables.{trusted, finalOf}
 use Rattle.register.specs.Chains.{lengthOf}
 use Rattle.register.specs.Runs.{afterSteps, answers}
 use Rattle.packed_log.specs.Openings.{openingIn}
+use Rattle.replay.specs.Bodies.{bodyOf, faultOf}
 use Rattle.report.specs.Text.{stepLine, officeLine, logLine}
-use Rattle.report.specs.Bodies.{Body, bodyAt}
 
 -- a line for each answer: its place, counted on from the one given, 0 or the refusal, the value
 unfoldable pub stepLines : (place : ℕ) → List Stepped → List ℕ
@@ -35,14 +35,6 @@ officeLines r (suc q) = officeLines r q ++ officeText r q
 -- the lines of some steps, whose places are counted on from the one given, and then those of the offices, whose numbers are below 32
 unfoldable pub runLines : Register → (place : ℕ) → List Step → List ℕ
 runLines r place steps = stepLines place (answers r steps) ++ officeLines (afterSteps r steps) 32
-
--- what stands behind the log's opening
-unfoldable pub bodyOf : (log : List ℕ) → Body
-bodyOf log = bodyAt log (openingIn log .next)
-
--- the number that the log is refused with, 0 where it reads: that of its opening, else that of what stands behind it
-unfoldable pub faultOf : (log : List ℕ) → ℕ
-faultOf log = choose (eqb (openingIn log .refusal) 0) (bodyOf log .refusal) (openingIn log .refusal)
 
 -- the report: a log that does not read gives its number alone
 unfoldable pub reportOf : (log : List ℕ) → List ℕ

@@ -1,17 +1,17 @@
 // The whole check: a log's bytes to the report's bytes.
 ghost use mathlib.Core.Path.{_≡_};
 ghost use Prim.Native.Nat.{_≤_};
-ghost use lib.Dec.{eqb, leb};
+ghost use lib.Dec.{leb};
 ghost use lib.ListN.{length, replicate};
 ghost use Rattle.words.specs.Lent.{lent, given};
 ghost use Rattle.words.specs.Tests.{choose};
-ghost use Rattle.report.specs.Bodies.{bodyAt};
+ghost use Rattle.report.specs.Text.{TextWritten};
 ghost use Rattle.report.specs.Reports.{reportOf, givenLength, bufferAfter};
-use crate::body::fault_from;
 use crate::run::write_run;
 use crate::text::clear;
 use crate::text::write_log_line;
 use packed_log::opening::read_opening;
+use replay::body::fault_of;
 
 // The report's length where it fits; else 0, and the buffer is all zero.
 fn fitted(report: &mut [u8], size: usize) -> usize
@@ -25,14 +25,17 @@ fn fitted(report: &mut [u8], size: usize) -> usize
     0
 }
 
-// The number that a log is refused with: that of its opening, else that of what stands behind it.
-fn fault_of(log: &[u8], opening: u8, next: usize) -> u8
-    ensures { λ r. ⌜ r ≡ choose (eqb opening 0) (bodyAt (lent log) next .refusal) opening ⌝ }
+// Writes the report of a log.
+fn write_report(report: &mut [u8], log: &[u8]) -> usize
+    ensures { λ r. ⌜ TextWritten (lent report) 0 (reportOf (lent log)) r (given report) × (r ≤ 2228800) ⌝ }
 {
-    if opening == 0 {
-        return fault_from(log, next);
+    let opening = read_opening(log);
+    let fault = fault_of(log, opening.refusal, opening.next);
+    if fault != 0 {
+        return write_log_line(report, 0, fault);
     }
-    opening
+    let register = opening.register;
+    write_run(report, log, opening.next, register)
 }
 
 // Checks a log, writes the report into the buffer and gives its length. Where it does not fit, that is 0, and the buffer is all zero. No
@@ -42,13 +45,6 @@ pub fn check(log: &[u8], report: &mut [u8]) -> usize
         × (given report ≡ bufferAfter (lent log) (lent report))
         × (length (reportOf (lent log)) ≤ 2228800) ⌝ }
 {
-    let opening = read_opening(log);
-    let fault = fault_of(log, opening.refusal, opening.next);
-    if fault != 0 {
-        let size = write_log_line(report, 0, fault);
-        return fitted(report, size);
-    }
-    let register = opening.register;
-    let size = write_run(report, log, opening.next, register);
+    let size = write_report(report, log);
     fitted(report, size)
 }

@@ -1,5 +1,4 @@
 // The report of a log.
-mod body;
 pub mod check;
 mod lines;
 mod run;

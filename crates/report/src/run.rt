@@ -2,13 +2,13 @@
 ghost use Prim.Native.Nat.{_≤_};
 ghost use Rattle.words.specs.Lent.{lent, given};
 ghost use Rattle.report.specs.Text.{TextWritten};
-ghost use Rattle.report.specs.Bodies.{bodyAt};
+ghost use Rattle.replay.specs.Bodies.{bodyAt};
 ghost use Rattle.report.specs.Reports.{runLines};
-use crate::body::read_part;
-use crate::body::steps_of;
 use crate::lines::write_batch;
 use crate::lines::write_offices;
 use register::Register;
+use replay::body::read_part;
+use replay::body::steps_of;
 
 // Writes the lines of the steps that stand from position `from` on, run from that register, and then those of the offices.
 pub(crate) fn write_run(report: &mut [u8], log: &[u8], from: usize, register: Register) -> usize

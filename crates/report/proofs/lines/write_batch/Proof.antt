@@ -17,10 +17,6 @@ Inv-loop report₀ at place refusals values count next₀ i₀ report next i = (
 abbrev μ-loop : tie.MeasureT-loop
 μ-loop report₀ at place refusals values count next₀ i₀ report next i = count - i
 
-loop-holds : tie.Need-loop-holds Inv-loop μ-loop
-unfolding batchLines
-loop-holds c = (search needs, omega arith, record { counted = sym (add-zero _); laid = refl })
-
 loop-again : tie.Need-loop-again Inv-loop μ-loop
 unfolding batchLines
 loop-again c =
@@ -29,9 +25,6 @@ loop-again c =
     let line = at-line .write-step-line .ensures in
     (search needs, omega (arith, line .1, held .1), rw add-one (then (held .2) (line .0)))
 
-same-length : tie.Need-same-length Inv-loop μ-loop
-same-length c = same-size (c .before .loop .inv .2)
-
 returns : tie.Need-returns Inv-loop μ-loop
 returns c =
     let end : c .before .loop .i ≡ c .before .before .before .args .count = omega arith in
@@ -39,12 +32,13 @@ returns c =
     (rw end at (held .2), omega (arith, held .1))
 
 pub write-batch-spec : {M : Type 1} → statement M
+unfolding batchLines
 write-batch-spec =
     tie.close
     (tie.spec
     Inv-loop
     μ-loop
-    loop-holds
+    (λ c. (search needs, omega arith, record { counted = sym (add-zero _); laid = refl }))
     (λ c. search needs)
     (λ c. search needs)
     (λ c. search needs)
@@ -53,5 +47,5 @@ write-batch-spec =
     (λ c. search needs)
     (λ c. search needs)
     loop-again
-    same-length
+    (λ c. same-size (c .before .loop .inv .2))
     returns)

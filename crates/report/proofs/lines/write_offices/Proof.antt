@@ -17,13 +17,6 @@ Inv-loop report₀ at register next₀ q₀ report next q = (q ≤ 32) × (next 
 abbrev μ-loop : tie.MeasureT-loop
 μ-loop report₀ at register next₀ q₀ report next q = 32 - q
 
-loop-holds : tie.Need-loop-holds Inv-loop μ-loop
-unfolding officeLines
-loop-holds c = (search needs, omega arith, record { counted = sym (add-zero _); laid = refl })
-
-write-office-requires : tie.Need-write-office-requires Inv-loop μ-loop
-write-office-requires c κs = (omega arith, omega arith)
-
 loop-again : tie.Need-loop-again Inv-loop μ-loop
 unfolding officeLines
 loop-again c =
@@ -32,9 +25,6 @@ loop-again c =
     let line = at-office .write-office .ensures in
     (search needs, omega (arith, line .1, held .1), rw add-one (then (held .2) (line .0)))
 
-same-length : tie.Need-same-length Inv-loop μ-loop
-same-length c = same-size (c .before .loop .inv .2)
-
 returns : tie.Need-returns Inv-loop μ-loop
 returns c =
     let end : c .before .loop .q ≡ 32 = omega arith in
@@ -42,15 +32,16 @@ returns c =
     (rw end at (held .2), omega (arith, held .1))
 
 pub write-offices-spec : {M : Type 1} → statement M
+unfolding officeLines
 write-offices-spec =
     tie.close
     (tie.spec
     Inv-loop
     μ-loop
-    loop-holds
-    write-office-requires
+    (λ c. (search needs, omega arith, record { counted = sym (add-zero _); laid = refl }))
+    (λ c κs. (omega arith, omega arith))
     (λ c. search needs)
     (λ c. search needs)
     loop-again
-    same-length
+    (λ c. same-size (c .before .loop .inv .2))
     returns)

@@ -1,14 +1,13 @@
 -- `report::run::write_run`: at each turn one part of the steps is read, run and written.
 use borrow.Author.Needs.{needs}
-use mathlib.Core.Path.{ap, _∙_}
+use mathlib.Core.Path.{_∙_}
 use native.Mathlib.Omega.{arith}
-use lib.ListN.{length, take}
-use Rattle.report.specs.Bodies.{bodyAt}
-use Rattle.report.specs.Parts.{PartAt}
+use lib.ListN.{length}
+use Rattle.replay.specs.Bodies.{bodyAt}
+use Rattle.replay.proofs.BodyLaws.{body-few}
+use Rattle.replay.proofs.PartLaws.{part-rest, part-fewer, part-ran}
 use Rattle.report.specs.Reports.{runLines}
 use Rattle.report.proofs.TextLaws.{same-size}
-use Rattle.report.proofs.BodyLaws.{body-few}
-use Rattle.report.proofs.PartLaws.{part-rest, part-fewer}
 use Rattle.report.proofs.RunText.{SoFar, run-begins, run-goes-on, run-ends}
 use Rattle.report.proofs.run.write_run.Statement.{statement}
 use Rattle.report.proofs.run.write_run.Tie as tie
@@ -20,20 +19,10 @@ Inv-loop report₀ log from current₀ at₀ place₀ next₀ report current at 
 abbrev μ-loop : tie.MeasureT-loop
 μ-loop report₀ log from current₀ at₀ place₀ next₀ report current at place next = length (bodyAt log at .steps)
 
-loop-holds : tie.Need-loop-holds Inv-loop μ-loop
-loop-holds c =
-    let a = c .before .before .args in
-    run-begins (a .report .now) (a .register) (bodyAt (a .log .now) (a .from) .steps) (body-few (a .log .now) (a .from))
-
--- what has been read: the part at the loop's position
-part : (c : tie.After-read-part Inv-loop μ-loop)
-    → PartAt (c .before .before .before .before .args .log .now) (c .before .loop .at) (c .read-part .result)
-part c = c .read-part .ensures
-
 loop-less : tie.Need-loop-less Inv-loop μ-loop
 loop-less c =
-    let at-part = c .before .before .before .before .before .before .before .before .before .before .before .before in
-    part-fewer _ _ _ (part at-part) (c .before .before .before .before .before .before .before .before .before .before .before .if1 .left)
+    let at-if1 = c .before .before .before .before .before .before .before .before .before .before .before in
+    part-fewer _ _ _ (at-if1 .before .read-part .ensures) (at-if1 .if1 .left)
 
 loop-again : tie.Need-loop-again Inv-loop μ-loop
 loop-again c =
@@ -41,30 +30,25 @@ loop-again c =
     let at-run = at-batch .before .before .before .before .before .before in
     let at-steps = at-run .before in
     let at-part = at-steps .before .before .before in
-    let at-loop = at-part .before in
-    let log = at-loop .before .before .before .args .log .now in
-    let read = part at-part in
-    let steps = at-steps .steps-of .ensures in
+    let turn = at-part .before .loop in
+    let read = at-part .read-part .ensures in
     let lines = at-batch .write-batch .ensures in
-    let rest = bodyAt log (at-loop .loop .at) .steps in
-    let holds = ap (take (at-part .read-part .result .count)) (steps .0) ∙ read .steps in
-    let held = run-goes-on (at-loop .loop .current) (at-loop .loop .place) rest _ _ _ (read .count) holds (steps .1) (at-run .run .ensures)
-    (at-loop .loop .inv) (lines .0) (lines .1) in
-    rw (part-rest log (at-loop .loop .at) _ read) held
+    let runs = part-ran _ (turn .at) _ (turn .current) _ _ read (at-steps .steps-of .ensures) (at-run .run .ensures) in
+    rw (part-rest _ (turn .at) _ read)
+    (run-goes-on (turn .current) (turn .place) _ _ _ (read .count) runs (turn .inv) (lines .0) (lines .1))
 
 same-length : tie.Need-same-length Inv-loop μ-loop
 same-length c =
     let at-offices = c .before .before in
-    same-size (at-offices .write-offices .ensures .0) ∙ same-size (at-offices .before .before .before .before .loop .inv .written)
+    same-size (at-offices .write-offices .ensures .0) ∙ at-offices .before .before .before .before .loop .inv .sized
 
 returns : tie.Need-returns Inv-loop μ-loop
 returns c =
     let at-offices = c .before .before in
     let at-part = at-offices .before .before .before in
-    let read = part at-part in
     let so-far = at-part .before .loop .inv in
     let lines = at-offices .write-offices .ensures in
-    (run-ends so-far (omega (arith, read .count)) (lines .0), omega (arith, lines .1, so-far .short, so-far .few))
+    (run-ends _ so-far (omega (arith, at-part .read-part .ensures .count)) (lines .0), omega (arith, lines .1, so-far .short, so-far .few))
 
 pub write-run-spec : {M : Type 1} → statement M
 write-run-spec =
@@ -72,7 +56,7 @@ write-run-spec =
     (tie.spec
     Inv-loop
     μ-loop
-    loop-holds
+    (λ c. run-begins _ _ _ (body-few _ _))
     (λ c κs. search needs)
     (λ c κs. search needs)
     (λ c κs. search needs)

@@ -32,9 +32,6 @@ loop-again c =
     let next : at-put .put .result ≡ i + 1 = at-put .put .ensures .counted in
     (omega (arith, long at-loop), rw (next, ← replicate-append-replicate {A = ℕ} i 1 0, ← next) (then (at-loop .loop .inv .1) (at-put .put .ensures)))
 
-same-length : tie.Need-same-length Inv-loop μ-loop
-same-length c = long (c .before)
-
 returns : tie.Need-returns Inv-loop μ-loop
 returns c =
     let report = c .before .before .before .args .report .now in
@@ -46,4 +43,4 @@ returns c =
 pub clear-spec : {M : Type 1} → statement M
 clear-spec =
     tie.close
-    (tie.spec Inv-loop μ-loop (λ c. search needs) (λ c κs. search needs) loop-less loop-again same-length returns)
+    (tie.spec Inv-loop μ-loop (λ c. search needs) (λ c κs. search needs) loop-less loop-again (λ c. long (c .before)) returns)

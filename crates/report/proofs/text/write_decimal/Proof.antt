@@ -21,12 +21,6 @@ Inv-loop report₀ at n next place₀ rest₀ report place rest =
 abbrev μ-loop : tie.MeasureT-loop
 μ-loop report₀ at n next place₀ rest₀ report place rest = rest
 
-loop-holds : tie.Need-loop-holds Inv-loop μ-loop
-loop-holds c = (search needs, search needs, search needs, refl)
-
-sub-place : tie.Need-sub-place Inv-loop μ-loop
-sub-place c = omega (arith, decimal-some (c .before .loop .rest))
-
 loop-again : tie.Need-loop-again Inv-loop μ-loop
 loop-again c =
     let at-digit = c .before .before in
@@ -41,18 +35,12 @@ loop-again c =
       rw (at-digit .put-digit .ensures) (last-first (l .report) (a .at) (l .place) (l .rest) fits more (l .inv .2)) ∙ l .inv .3,
     )
 
-put-digit-requires-2 : tie.Need-put-digit-requires-2 Inv-loop μ-loop
-put-digit-requires-2 c κs = (omega arith, omega arith)
-
 returns : tie.Need-returns Inv-loop μ-loop
 returns c =
     let at-digit = c .before .before in
     let at-loop = at-digit .before .before .before in
     let digit : decimal (at-loop .loop .rest) ≡ (48 + at-loop .loop .rest) ∷ [] = decimal-one _ (omega arith) in
     (record { counted = search needs; laid = at-digit .put-digit2 .ensures ∙ (rw digit at (at-loop .loop .inv .3)) }, search needs)
-
-same-length : tie.Need-same-length Inv-loop μ-loop
-same-length c = same-size (returns c .0)
 
 pub write-decimal-spec : {M : Type 1} → statement M
 write-decimal-spec =
@@ -62,11 +50,11 @@ write-decimal-spec =
     μ-loop
     (λ c κs. search needs)
     (λ c. search needs)
-    loop-holds
-    sub-place
+    (λ c. (search needs, search needs, search needs, refl))
+    (λ c. omega (arith, decimal-some (c .before .loop .rest) (omega arith) .0))
     (λ c κs. search needs)
     (λ c. search needs)
     loop-again
-    put-digit-requires-2
-    same-length
+    (λ c κs. (omega arith, omega arith))
+    (λ c. same-size (returns c .0))
     returns)

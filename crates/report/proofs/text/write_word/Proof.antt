@@ -31,9 +31,6 @@ loop-again c =
     let i : ℕ = at-loop .loop .i in
     (search needs, rw (add-one, take-suc (a .word .now) i 0 (omega arith)) (then (at-loop .loop .inv .1) (at-put .put .ensures)))
 
-same-length : tie.Need-same-length Inv-loop μ-loop
-same-length c = same-size (c .before .loop .inv .1)
-
 returns : tie.Need-returns Inv-loop μ-loop
 returns c =
     let word = c .before .before .before .before .args .word .now in
@@ -52,5 +49,5 @@ write-word-spec =
     (λ c. search needs)
     (λ c. search needs)
     loop-again
-    same-length
+    (λ c. same-size (c .before .loop .inv .1))
     returns)

@@ -1,18 +1,21 @@
 -- Parts: gathering one step after the other, up to a whole part.
-use Prim.Native.Nat.{ℕ, zero, suc, _+_, _≤_, _<_}
+use Prim.Native.Nat.{ℕ, zero, suc, _+_, _≤_, _<_, min}
 use mathlib.Core.Path.{_≡_, refl, sym, ap, _∙_}
-use mathlib.Core.List.{List, [], _∷_, _++_, map, append-nil, append-assoc}
+use mathlib.Core.List.{List, [], _∷_, _++_, append-nil, append-assoc}
 use mathlib.Core.Logic.{_⊎_, inl, inr}
 use native.Mathlib.Numerals.{add-one}
 use native.Mathlib.Omega.{arith}
-use lib.ListN.{length, getD, take, drop, set, replicate, length-take, length-drop, length-set, length-map, drop-of-length-le, List·getD-map}
-use lib.Seq.{length-take-le, take-all, take-suc, take-suc-set, take-at, drop-at}
+use lib.ListN.{length, take, drop, set, replicate, length-take, length-drop, length-set, length-map, drop-of-length-le}
+use lib.Seq.{length-take-le, take-all, take-at, drop-at}
 use Rattle.register.specs.declared.step.Step.{Step}
+use Rattle.register.specs.declared.table.Register.{Register}
+use Rattle.register.specs.declared.table.Ran.{Ran}
+use Rattle.register.specs.Runs.{ran}
 use Rattle.packed_log.specs.declared.item.Item.the-variants as items
-use Rattle.report.specs.declared.body.Slot.{Slot}
-use Rattle.report.specs.declared.body.Part.{Part}
-use Rattle.report.specs.Bodies.{Body, begun, bodyAt}
-use Rattle.report.specs.Parts.{stepsOf, without, PartAt}
+use Rattle.replay.specs.declared.body.Slot.{Slot}
+use Rattle.replay.specs.declared.body.Part.{Part}
+use Rattle.replay.specs.Bodies.{Body, begun, bodyAt}
+use Rattle.replay.specs.Parts.{stepsOf, without, PartAt}
 
 -- a body with some steps in front
 unfoldable pub ahead : List Step → Body → Body
@@ -31,23 +34,6 @@ unfolding stepsOf
 take-put [] i slot less = absurd (omega arith)
 take-put (x ∷ slots) zero slot less = refl
 take-put (x ∷ slots) (suc i) slot less = ap (λ (ss : List Step). x .step ∷ ss) (take-put slots i slot (omega arith))
-
--- the step of slot i, copied behind the i steps in front of it
-pub copied-step : (slots : List Slot) (steps : List Step) (i : ℕ) (empty : Slot) → i < length slots → length steps ≡ length slots
-    → take i steps ≡ take i (stepsOf slots) → take (i + 1) (set steps i (getD slots i empty .step)) ≡ take (i + 1) (stepsOf slots)
-unfolding stepsOf
-copied-step slots steps i empty less sized so-far =
-    let f : Slot → Step = λ s. s .step in
-    let within : i < length (map f slots) = rw length-map less in
-    let there : i < length steps = omega arith in
-    rw (add-one, take-suc-set, so-far, take-suc (map f slots) i (empty .step), List·getD-map f slots i empty)
-
--- the steps of all slots, copied
-pub copied-all : (slots : List Slot) (steps : List Step) (n : ℕ) → length slots ≡ n → length steps ≡ n
-    → take n steps ≡ take n (stepsOf slots) → steps ≡ stepsOf slots
-unfolding stepsOf
-copied-all slots steps n full sized all =
-    sym (take-all n steps (omega arith)) ∙ all ∙ take-all n (stepsOf slots) (rw length-map (omega arith))
 
 -- steps and the rest behind them are parted at 256 where there are 256 steps, or fewer with no step behind them
 parted : (ss rest : List Step) → length ss ≤ 256 → (length ss ≡ 256) ⊎ (rest ≡ [])
@@ -103,3 +89,10 @@ part-rest log p part h = ap (λ (b : Body). b .steps) (h .rest)
 pub part-fewer : (log : List ℕ) (p : ℕ) (part : Part) → PartAt log p part → (part .count ≡ 0 → ⊥)
     → length (bodyAt log (part .next) .steps) < length (bodyAt log p .steps)
 part-fewer log p part h some = rw (part-rest log p part h, length-drop) (omega (arith, h .count))
+
+-- the batch of a part's steps, run, gives what the body's first 256 steps give
+pub part-ran : (log : List ℕ) (p : ℕ) (part : Part) (r : Register) (batch : List Step) (given : Ran) → PartAt log p part
+    → batch ≡ stepsOf (part .slots) → given ≡ ran r (take (min (part .count) 256) batch) → given ≡ ran r (take 256 (bodyAt log p .steps))
+part-ran log p part r batch given h holds runs =
+    let same : min (part .count) 256 ≡ part .count = omega (arith, h .count) in
+    runs ∙ rw (same, holds, h .steps)

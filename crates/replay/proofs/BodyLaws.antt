@@ -5,18 +5,20 @@ use mathlib.Core.List.{List, [], _∷_}
 use native.Mathlib.Numerals.{add-one}
 use native.Mathlib.Omega.{arith}
 use borrow.Author.Tests.{ne-eqb}
-use lib.Dec.{eqb·suc-zero}
-use Rattle.words.specs.Tests.{choose}
+use lib.Dec.{eqb, eqb·suc-zero}
 use lib.ListN.{length}
+use Rattle.words.specs.Tests.{choose}
 use Rattle.register.specs.declared.step.Step.{Step}
 use Rattle.packed_log.specs.declared.item.Item.{Item}
 use Rattle.packed_log.specs.declared.item.Item.the-variants as items
 use Rattle.packed_log.specs.declared.item.Read.{Read}
 use Rattle.packed_log.specs.declared.item.Skipped.{Skipped}
+use Rattle.packed_log.specs.declared.opening.Opening.{Opening}
 use Rattle.packed_log.specs.Items.{left, kindAt, skippedAt, withFields, itemAt}
+use Rattle.packed_log.specs.Openings.{openingIn}
 use Rattle.packed_log.specs.Logs.{ReadsFrom}
 use Rattle.packed_log.proofs.ItemLaws.{Outcome, refused, ended, stepped, outcome}
-use Rattle.report.specs.Bodies.{Body, begun, bodyFrom, bodyAt}
+use Rattle.replay.specs.Bodies.{Body, begun, bodyFrom, bodyAt, bodyOf, faultOf}
 
 -- what an item that is read at position p keeps to: a step takes four bits or more of a log that is not too long; a refusal has a number
 unfoldable Sound : (log : List ℕ) → (p next : ℕ) → Item → Type 0
@@ -134,3 +136,9 @@ few-from (suc fuel) log p =
 pub body-few : (log : List ℕ) (p : ℕ) → length (bodyAt log p .steps) ≤ 131072
 unfolding bodyAt
 body-few log p = omega (arith, few-from (left log p + 1) log p)
+
+-- the number that is told from a log's opening and what stands behind it is that of the log
+pub same-fault : (log : List ℕ) (o : Opening) (fault : ℕ) → o ≡ openingIn log
+    → fault ≡ choose (eqb (o .refusal) 0) (bodyAt log (o .next) .refusal) (o .refusal) → fault ≡ faultOf log
+unfolding faultOf bodyOf
+same-fault log o fault opens told = told ∙ rw opens

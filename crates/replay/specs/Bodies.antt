@@ -1,10 +1,13 @@
 -- What a log holds behind its opening: steps, up to the end or to a refusal.
 use Prim.Native.Nat.{ℕ, zero, suc, _+_}
 use mathlib.Core.List.{List, [], _∷_}
+use lib.Dec.{eqb}
+use Rattle.words.specs.Tests.{choose}
 use Rattle.register.specs.declared.step.Step.{Step}
 use Rattle.packed_log.specs.declared.item.Item.{Item}
 use Rattle.packed_log.specs.declared.item.Item.the-variants as items
 use Rattle.packed_log.specs.Items.{left, itemAt}
+use Rattle.packed_log.specs.Openings.{openingIn}
 
 -- the steps up to the first item that is none, and that item as a number: 0 for the end, else the refusal
 pub record Body : Type 0 where
@@ -25,3 +28,11 @@ bodyFrom (suc fuel) log p = begun (itemAt log p .item) (bodyFrom fuel log (itemA
 -- the body from position p on: every step takes some of the bits that are left, so the fuel never runs out
 unfoldable pub bodyAt : (log : List ℕ) → (p : ℕ) → Body
 bodyAt log p = bodyFrom (left log p + 1) log p
+
+-- what stands behind the log's opening
+unfoldable pub bodyOf : (log : List ℕ) → Body
+bodyOf log = bodyAt log (openingIn log .next)
+
+-- the number that the log is refused with, 0 where it reads: that of its opening, else that of what stands behind it
+unfoldable pub faultOf : (log : List ℕ) → ℕ
+faultOf log = choose (eqb (openingIn log .refusal) 0) (bodyOf log .refusal) (openingIn log .refusal)

@@ -4,9 +4,9 @@ use mathlib.Core.Path.{_≡_}
 use mathlib.Core.List.{List, map}
 use lib.ListN.{length, take, drop}
 use Rattle.register.specs.declared.step.Step.{Step}
-use Rattle.report.specs.declared.body.Slot.{Slot}
-use Rattle.report.specs.declared.body.Part.{Part}
-use Rattle.report.specs.Bodies.{Body, bodyAt}
+use Rattle.replay.specs.declared.body.Slot.{Slot}
+use Rattle.replay.specs.declared.body.Part.{Part}
+use Rattle.replay.specs.Bodies.{Body, bodyAt}
 
 -- the steps in some slots
 unfoldable pub stepsOf : List Slot → List Step

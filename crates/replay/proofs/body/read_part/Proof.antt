@@ -1,4 +1,4 @@
--- `report::body::read_part`: at each turn the first slots hold the steps in front of the position.
+-- `replay::body::read_part`: at each turn the first slots hold the steps in front of the position.
 use borrow.Author.Needs.{needs}
 use Prim.Native.Nat.{ℕ, _-_}
 use mathlib.Core.Path.{_≡_, refl, ap, _∙_}
@@ -9,11 +9,11 @@ use denote.Enum.Declared.{tagOf}
 use Rattle.packed_log.specs.declared.item.Item.{Item}
 use Rattle.packed_log.specs.declared.item.Item.the-variants as items
 use Rattle.packed_log.proofs.item.Item as item-laws
-use Rattle.report.specs.Bodies.{Body, begun, bodyAt}
-use Rattle.report.proofs.BodyLaws.{body-read}
-use Rattle.report.proofs.PartLaws.{Gathered, gathered-none, gathered-step, gathered-part}
-use Rattle.report.proofs.body.read_part.Statement.{statement}
-use Rattle.report.proofs.body.read_part.Tie as tie
+use Rattle.replay.specs.Bodies.{Body, begun, bodyAt}
+use Rattle.replay.proofs.BodyLaws.{body-read}
+use Rattle.replay.proofs.PartLaws.{Gathered, gathered-none, gathered-step, gathered-part}
+use Rattle.replay.proofs.body.read_part.Statement.{statement}
+use Rattle.replay.proofs.body.read_part.Tie as tie
 
 abbrev Inv-loop : tie.InvT-loop
 Inv-loop log at slots₀ count₀ next₀ slots count next = Gathered log at (record { slots = slots; count = count; next = next })
@@ -33,12 +33,6 @@ closes (items.Step s) rest (inr other) = absurd (omega arith)
 closes items.End rest other = refl
 closes (items.Refused number) rest other = refl
 
-loop-holds : tie.Need-loop-holds Inv-loop μ-loop
-loop-holds c = gathered-none _ _ _
-
-enum-known-item : tie.Need-enum-known-item Inv-loop μ-loop
-enum-known-item c = c .match .keys1
-
 -- what the item that was read begins
 by-item : (c : tie.After-read-item Inv-loop μ-loop) (item : Item) → c .read-item .result .item ≡ item
     → bodyAt (c .before .before .before .before .args .log .now) (c .before .before .loop .next)
@@ -50,9 +44,6 @@ loop-again c =
     let at-read = c .before .before .before in
     let at-loop-test = at-read .before in
     gathered-step _ _ _ _ _ (at-loop-test .before .loop .inv) (at-loop-test .loop-test .taken) (by-item at-read _ (c .before .item .given .1))
-
-returns : tie.Need-returns Inv-loop μ-loop
-returns c = gathered-part _ _ _ (c .before .loop .inv) (inl (omega (arith, c .before .loop .inv .count)))
 
 returns-2 : tie.Need-returns-2 Inv-loop μ-loop
 returns-2 c =
@@ -66,13 +57,13 @@ read-part-spec =
     (tie.spec
     Inv-loop
     μ-loop
-    loop-holds
+    (λ c. gathered-none _ _ _)
     (λ c κs. search needs)
-    enum-known-item
+    (λ c. c .match .keys1)
     (λ c. search needs)
     (λ c. search needs)
     (λ c. search needs)
     (λ c. search needs)
     loop-again
-    returns
+    (λ c. gathered-part _ _ _ (c .before .loop .inv) (inl (omega (arith, c .before .loop .inv .count))))
     returns-2)

@@ -1,9 +1,10 @@
 // What a log holds behind its opening: steps, up to the end or to a refusal.
 ghost use mathlib.Core.Path.{_≡_};
-ghost use lib.ListN.{length};
+ghost use lib.Dec.{eqb};
 ghost use Rattle.words.specs.Lent.{lent};
-ghost use Rattle.report.specs.Bodies.{bodyAt};
-ghost use Rattle.report.specs.Parts.{stepsOf, PartAt};
+ghost use Rattle.words.specs.Tests.{choose};
+ghost use Rattle.replay.specs.Bodies.{bodyAt};
+ghost use Rattle.replay.specs.Parts.{stepsOf, PartAt};
 use packed_log::Item;
 use packed_log::item::read_item;
 use packed_log::item::skip_item;
@@ -12,7 +13,7 @@ use register::run::BATCH;
 use register::run::Batch;
 
 // The refusal that reading the log from position `at` on ends with; 0 where it ends with the end.
-pub(crate) fn fault_from(log: &[u8], at: usize) -> u8
+fn fault_from(log: &[u8], at: usize) -> u8
     ensures { λ r. ⌜ r ≡ bodyAt (lent log) at .refusal ⌝ }
 {
     let mut next = at;
@@ -25,20 +26,30 @@ pub(crate) fn fault_from(log: &[u8], at: usize) -> u8
     }
 }
 
+// The number that a log is refused with: that of its opening, else that of what stands behind it.
+pub fn fault_of(log: &[u8], opening: u8, next: usize) -> u8
+    ensures { λ r. ⌜ r ≡ choose (eqb opening 0) (bodyAt (lent log) next .refusal) opening ⌝ }
+{
+    if opening == 0 {
+        return fault_from(log, next);
+    }
+    opening
+}
+
 // A place for one step.
-pub(crate) struct Slot {
+pub struct Slot {
     pub step: Step,
 }
 
 // A part of a log's steps, in the first `count` slots, and the position behind them.
-pub(crate) struct Part {
+pub struct Part {
     pub slots: [Slot; 256],
     pub count: usize,
     pub next: usize,
 }
 
 // The steps from position `at` on, up to a batch of them. Each item is read once.
-pub(crate) fn read_part(log: &[u8], at: usize) -> Part
+pub fn read_part(log: &[u8], at: usize) -> Part
     ensures { λ r. ⌜ PartAt (lent log) at r ⌝ }
 {
     let empty = Slot {
@@ -61,8 +72,8 @@ pub(crate) fn read_part(log: &[u8], at: usize) -> Part
 }
 
 // The steps in some slots, as a batch to run.
-pub(crate) fn steps_of(slots: [Slot; 256]) -> Batch
-    ensures { λ r. ⌜ (r ≡ stepsOf slots) × (length r ≡ 256) ⌝ }
+pub fn steps_of(slots: [Slot; 256]) -> Batch
+    ensures { λ r. ⌜ r ≡ stepsOf slots ⌝ }
 {
     let mut steps = [Step::Advance; 256];
     let mut i = 0;

@@ -1,0 +1,4 @@
+-- The laws of the definitions in specs/, by topic.
+pub mod BodyLaws
+pub mod PartLaws
+pub mod Claims

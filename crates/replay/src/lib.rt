@@ -1,0 +1,2 @@
+// What a log reads as, and its run.
+pub mod body;
