@@ -1,31 +1,49 @@
 // Checks a log: standard input to standard output.
+ghost use mathlib.Core.Path.{_≡_};
+ghost use Prim.Native.Nat.{_≤_, _<_};
+ghost use lib.ListN.{length, take, replicate};
+ghost use Rattle.words.specs.Lent.{lent, given};
+ghost use Rattle.report.specs.Reports.{reportOf, givenLength, bufferAfter};
 use libc::STDIN_FILENO;
 use libc::STDOUT_FILENO;
 use report::check::check;
 
 // One byte more than a log may have: enough for a long log to be refused as such.
-fn log_buffer() -> [u8; 65537] {
-    [0; 65537]
+const LOG_ROOM: usize = 65537;
+
+// As many bytes as the longest report can have.
+const REPORT_ROOM: usize = 2228800;
+
+// Room for a log, all zero.
+fn log_buffer() -> [u8; LOG_ROOM]
+    ensures { λ r. ⌜ r ≡ replicate 65537 0 ⌝ }
+{
+    [0; LOG_ROOM]
 }
 
-// As many bytes as the longest report has.
-fn report_buffer() -> [u8; 2228800] {
-    [0; 2228800]
+// Room for a report, all zero.
+fn report_buffer() -> [u8; REPORT_ROOM]
+    ensures { λ r. ⌜ r ≡ replicate 2228800 0 ⌝ }
+{
+    [0; REPORT_ROOM]
 }
 
 // Prints the first bytes of a buffer.
-fn print(report: &[u8], size: usize) {
-    if size <= report.len() {
-        io::write_all(STDOUT_FILENO, &report[..size]);
-    }
+fn print(report: &[u8], size: usize)
+    requires { ⌜ size ≤ length (now report) ⌝ }
+{
+    io::write_all(STDOUT_FILENO, &report[..size]);
 }
 
-// Checks the first bytes of a buffer.
-fn check_first(log: &[u8], size: usize, report: &mut [u8]) -> usize {
-    if size <= log.len() {
-        return check(&log[..size], report);
-    }
-    0
+// Checks the first bytes of a buffer that has room for more than a log may have. The report fits, and it is what stands in front in its buffer then.
+fn check_first(log: &[u8], size: usize, report: &mut [u8]) -> usize
+    requires { ⌜ (size ≤ length (now log)) × (65536 < length (now log)) × (2228800 ≤ length (now report)) ⌝ }
+    ensures { λ r. ⌜ (r ≡ givenLength (take size (lent log)) (lent report))
+        × (given report ≡ bufferAfter (take size (lent log)) (lent report))
+        × (take r (given report) ≡ reportOf (take size (lent log)))
+        × (r ≤ length (given report)) ⌝ }
+{
+    check(&log[..size], report)
 }
 
 fn main() {

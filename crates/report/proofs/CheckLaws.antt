@@ -1,12 +1,14 @@
 -- Laws of the whole check: what a log's report is, and the buffer that it was written into.
-use Prim.Native.Nat.{ℕ}
+use Prim.Native.Nat.{ℕ, _≤_}
 use mathlib.Core.Path.{_≡_, refl, _∙_}
 use mathlib.Core.Bool.{Bool, true, false}
 use mathlib.Core.List.{List, _++_}
 use native.Mathlib.Nat.{zero-add}
-use borrow.Author.Tests.{eq-eqb, ne-eqb, leb-true}
+use native.Mathlib.Omega.{arith}
+use borrow.Author.Tests.{eq-eqb, ne-eqb, leb-true, le-leb}
 use lib.Dec.{leb}
-use lib.ListN.{length, drop, replicate}
+use lib.ListN.{length, take, drop, replicate, length-append}
+use lib.Seq.{take-at}
 use Rattle.words.specs.Tests.{choose}
 use Rattle.packed_log.specs.Openings.{openingIn}
 use Rattle.replay.specs.Bodies.{bodyOf, faultOf}
@@ -40,3 +42,9 @@ module _ (log before after : List ℕ) (size : ℕ) (written : TextWritten befor
   checked =
       let counted : size ≡ length (reportOf log) = written .counted ∙ zero-add _ in
       rw (counted, same-size written) (refl, held (leb (length (reportOf log)) (length before)) refl, refl)
+
+-- a report that fits is what the buffer holds in front, as far as the length that is given
+pub report-fits : (log buffer : List ℕ) → length (reportOf log) ≤ length buffer
+    → (take (givenLength log buffer) (bufferAfter log buffer) ≡ reportOf log) × (givenLength log buffer ≤ length (bufferAfter log buffer))
+unfolding givenLength bufferAfter choose
+report-fits log buffer fits = rw (le-leb _ _ fits) (take-at (reportOf log) _ _ refl, simp length-append (omega arith))
