@@ -10,9 +10,8 @@ use lib.ListN.{length, getD, take, drop}
 use lib.Seq.{take-suc, take-add}
 use Rattle.register.specs.declared.sorts.Office.{Office}
 use Rattle.register.specs.declared.step.Step.{Step}
-use Rattle.register.specs.declared.step.Step.the-variants.{Advance}
-use Rattle.register.specs.declared.book.Book.{Book}
 use Rattle.register.specs.declared.table.Register.{Register}
+use Rattle.register.specs.declared.book.Book.{Book}
 use Rattle.register.specs.Books.{block, bookOf}
 use Rattle.register.specs.Tables.{finalOf}
 use Rattle.register.specs.Chains.{chainNotarised}
@@ -52,17 +51,17 @@ never-part run i j p q tp tq = by (decLe (length (finalChain (moment run i) p)) 
 
 -- one more step is the step that stands there in the list
 pub one-more : (run : Run) (i : ℕ) → i < length (run .steps)
-    → moment run (suc i) ≡ stepRule (moment run i) (getD (run .steps) i Advance) .register
+    → moment run (suc i) ≡ stepRule (moment run i) (getD (run .steps) i Step.Advance) .register
 unfolding moment afterSteps
 one-more run i l =
-    ap (afterSteps (opened run)) (take-suc (run .steps) i Advance l)
-    ∙ after-append (opened run) (take i (run .steps)) (getD (run .steps) i Advance ∷ [])
+    ap (afterSteps (opened run)) (take-suc (run .steps) i Step.Advance l)
+    ∙ after-append (opened run) (take i (run .steps)) (getD (run .steps) i Step.Advance ∷ [])
 
 pub calls-are-moments : CallsAreMoments
 unfolding CallsAreMoments moment afterSteps
 calls-are-moments run given handed zero l = handed .first
 calls-are-moments run given handed (suc i) l =
-    let step : Step = getD (run .steps) i Advance in
+    let step : Step = getD (run .steps) i Step.Advance in
     handed .next i (omega arith)
     ∙ ap (λ (r : Register). stepRule r step .register) (calls-are-moments run given handed i (omega arith))
     ∙ sym (one-more run i (omega arith))

@@ -15,9 +15,8 @@ use Rattle.tables.specs.Blocks.{trustedIn, madeIn, parentIn, epochIn, matchesIn
 use Rattle.tables.specs.Messages.{saysIn}
 use Rattle.tables.specs.Chains.{climb, chainBy}
 use Rattle.register.specs.declared.sorts.Message.{Message}
-use Rattle.register.specs.declared.sorts.Kind.the-variants as kinds
+use Rattle.register.specs.declared.sorts.Kind.{Kind}
 use Rattle.register.specs.declared.step.Step.{Step}
-use Rattle.register.specs.declared.step.Step.the-variants as steps
 use Rattle.register.specs.declared.table.Stepped.{Stepped}
 use Rattle.register.specs.Books.{office, epoch, block, bookOf, registerOf}
 use Rattle.register.specs.Tables.{isVote}
@@ -39,58 +38,58 @@ message m = record { 0 = m }
 unfoldable pub fork-steps : List Step
 fork-steps =
     -- epoch 1: the leader, office 3, drafts blocks 1 and 2 and proposes both; offices 0 and 1 vote for the one, office 2 for the other
-    steps.Draft (block 0) (epoch 1) 1
-    ∷ steps.Draft (block 0) (epoch 1) 2
-    ∷ steps.BadSend (office 3) kinds.Proposal (office 3) (block 1)
-    ∷ steps.BadSend (office 3) kinds.Proposal (office 3) (block 2)
-    ∷ steps.Deliver (message 0) (office 0)
-    ∷ steps.Vote (office 0) (message 0)
-    ∷ steps.Deliver (message 0) (office 1)
-    ∷ steps.Vote (office 1) (message 0)
-    ∷ steps.Deliver (message 1) (office 2)
-    ∷ steps.Vote (office 2) (message 1)
+    Step.Draft (block 0) (epoch 1) 1
+    ∷ Step.Draft (block 0) (epoch 1) 2
+    ∷ Step.BadSend (office 3) Kind.Proposal (office 3) (block 1)
+    ∷ Step.BadSend (office 3) Kind.Proposal (office 3) (block 2)
+    ∷ Step.Deliver (message 0) (office 0)
+    ∷ Step.Vote (office 0) (message 0)
+    ∷ Step.Deliver (message 0) (office 1)
+    ∷ Step.Vote (office 1) (message 0)
+    ∷ Step.Deliver (message 1) (office 2)
+    ∷ Step.Vote (office 2) (message 1)
     -- office 0 learns of office 1's vote: in its view block 1 is notarised, by 3, 0 and 1
-    ∷ steps.Deliver (message 3) (office 0)
-    ∷ steps.Register (office 0) (message 3)
-    ∷ steps.Advance
+    ∷ Step.Deliver (message 3) (office 0)
+    ∷ Step.Register (office 0) (message 3)
+    ∷ Step.Advance
     -- epoch 2: office 2, which has heard of no notarised block, proposes block 3 on genesis; office 1 and office 3 vote for it, and 1 and 2 see it notarised
-    ∷ steps.Propose (office 2) (block 0) 3
-    ∷ steps.Deliver (message 5) (office 1)
-    ∷ steps.Vote (office 1) (message 5)
-    ∷ steps.BadSend (office 3) kinds.Vote (office 3) (block 3)
-    ∷ steps.Deliver (message 7) (office 1)
-    ∷ steps.Register (office 1) (message 7)
-    ∷ steps.Deliver (message 6) (office 2)
-    ∷ steps.Register (office 2) (message 6)
-    ∷ steps.Deliver (message 7) (office 2)
-    ∷ steps.Register (office 2) (message 7)
-    ∷ steps.Advance
+    ∷ Step.Propose (office 2) (block 0) 3
+    ∷ Step.Deliver (message 5) (office 1)
+    ∷ Step.Vote (office 1) (message 5)
+    ∷ Step.BadSend (office 3) Kind.Vote (office 3) (block 3)
+    ∷ Step.Deliver (message 7) (office 1)
+    ∷ Step.Register (office 1) (message 7)
+    ∷ Step.Deliver (message 6) (office 2)
+    ∷ Step.Register (office 2) (message 6)
+    ∷ Step.Deliver (message 7) (office 2)
+    ∷ Step.Register (office 2) (message 7)
+    ∷ Step.Advance
     -- epoch 3: office 1 proposes block 4 on block 3; offices 2 and 3 vote for it, and 1 and 2 see it notarised
-    ∷ steps.Propose (office 1) (block 3) 4
-    ∷ steps.Deliver (message 8) (office 2)
-    ∷ steps.Vote (office 2) (message 8)
-    ∷ steps.BadSend (office 3) kinds.Vote (office 3) (block 4)
-    ∷ steps.Deliver (message 9) (office 1)
-    ∷ steps.Register (office 1) (message 9)
-    ∷ steps.Deliver (message 10) (office 1)
-    ∷ steps.Register (office 1) (message 10)
-    ∷ steps.Deliver (message 10) (office 2)
-    ∷ steps.Register (office 2) (message 10)
-    ∷ steps.Advance
+    ∷ Step.Propose (office 1) (block 3) 4
+    ∷ Step.Deliver (message 8) (office 2)
+    ∷ Step.Vote (office 2) (message 8)
+    ∷ Step.BadSend (office 3) Kind.Vote (office 3) (block 4)
+    ∷ Step.Deliver (message 9) (office 1)
+    ∷ Step.Register (office 1) (message 9)
+    ∷ Step.Deliver (message 10) (office 1)
+    ∷ Step.Register (office 1) (message 10)
+    ∷ Step.Deliver (message 10) (office 2)
+    ∷ Step.Register (office 2) (message 10)
+    ∷ Step.Advance
     -- epoch 4: office 2 proposes block 5 on block 4; offices 1 and 3 vote for it
-    ∷ steps.Propose (office 2) (block 4) 5
-    ∷ steps.Deliver (message 11) (office 1)
-    ∷ steps.Vote (office 1) (message 11)
-    ∷ steps.BadSend (office 3) kinds.Vote (office 3) (block 5)
+    ∷ Step.Propose (office 2) (block 4) 5
+    ∷ Step.Deliver (message 11) (office 1)
+    ∷ Step.Vote (office 1) (message 11)
+    ∷ Step.BadSend (office 3) Kind.Vote (office 3) (block 5)
     -- moment 41: office 1 sees it notarised
-    ∷ steps.Deliver (message 13) (office 1)
-    ∷ steps.Register (office 1) (message 13)
+    ∷ Step.Deliver (message 13) (office 1)
+    ∷ Step.Register (office 1) (message 13)
     -- moment 46: so does office 2, and makes block 4 final
-    ∷ steps.Deliver (message 12) (office 2)
-    ∷ steps.Register (office 2) (message 12)
-    ∷ steps.Deliver (message 13) (office 2)
-    ∷ steps.Register (office 2) (message 13)
-    ∷ steps.Finalise (office 2) (block 5)
+    ∷ Step.Deliver (message 12) (office 2)
+    ∷ Step.Register (office 2) (message 12)
+    ∷ Step.Deliver (message 13) (office 2)
+    ∷ Step.Register (office 2) (message 13)
+    ∷ Step.Finalise (office 2) (block 5)
     ∷ []
 
 -- four offices, of which office 3 is not trusted, and four epochs, led by 3, 2, 1 and 2

@@ -19,9 +19,7 @@ use Rattle.register.specs.declared.sorts.Office.{Office}
 use Rattle.register.specs.declared.sorts.Block.{Block}
 use Rattle.register.specs.declared.sorts.Message.{Message}
 use Rattle.register.specs.declared.sorts.Kind.{Kind}
-use Rattle.register.specs.declared.sorts.Kind.the-variants as kinds
 use Rattle.register.specs.declared.step.Step.{Step}
-use Rattle.register.specs.declared.step.Step.the-variants as steps
 use Rattle.register.specs.declared.table.Header.{Header}
 use Rattle.register.specs.declared.table.OfficeState.{OfficeState}
 use Rattle.register.specs.declared.book.Book.{Book}
@@ -132,14 +130,14 @@ sizes-named r new s =
     })
 
 -- propose: the block named is of the current epoch, on the parent that was given
-lawful-propose : (r : Book) (office : Office) (parent : Block) (w : ℕ) → Ranges r → Accepted r (steps.Propose office parent w)
+lawful-propose : (r : Book) (office : Office) (parent : Block) (w : ℕ) → Ranges r → Accepted r (Step.Propose office parent w)
     → Grows r (propose r office parent w .effect) → Lawful r (propose r office parent w .effect)
 unfolding propose withBlock
 lawful-propose r office parent w z a grows =
     let new : Header = record { parent = parent; epoch = r .epoch; payload = w } in
     let next : Book = withNamed r new in
     let b : MadeOf next (parent .0) (r .epoch .0) (named r new) = named-made r new (z .sizes) (a .parent) (a .blocks) in
-    lawful-signed r next office kinds.Proposal (named r new) grows
+    lawful-signed r next office Kind.Proposal (named r new) grows
     (record {
       sizes = sizes-named r new (z .sizes);
       epoch = named-keeps r new (λ (x : Book). x .epoch .0) refl;
@@ -153,13 +151,13 @@ lawful-propose r office parent w z a grows =
     })
 
 -- vote: the block is that of a message sent
-lawful-vote : (r : Book) (office : Office) (message : Message) → Ranges r → Accepted r (steps.Vote office message)
+lawful-vote : (r : Book) (office : Office) (message : Message) → Ranges r → Accepted r (Step.Vote office message)
     → Grows r (vote r office message .effect) → Lawful r (vote r office message .effect)
 unfolding vote withMoved
 lawful-vote r office message z a grows =
     let b : ℕ = aboutOf r (message .0) in
     let s = z .sizes in
-    lawful-signed r (withMoved r (message .0) (office .0) 3) office kinds.Vote b grows
+    lawful-signed r (withMoved r (message .0) (office .0) 3) office Kind.Vote b grows
     (record {
       sizes = record { parents = s .parents; epochs = s .epochs; signers = s .signers; about = s .about };
       epoch = refl;
@@ -195,7 +193,7 @@ finals-after r q c p state is three = by (ℕ-discrete p q) (decLt q (length (r 
         inr (genesis (ap (finalOf end) e ∙ none))
     by (no d) h = inl (ap (λ (s : OfficeState). s .finalised .0) (getD-set-other (r .offices) q p state _ d))
 
-lawful-finalise : (r : Book) (office : Office) (newest : Block) → Accepted r (steps.Finalise office newest)
+lawful-finalise : (r : Book) (office : Office) (newest : Block) → Accepted r (Step.Finalise office newest)
     → Grows r (finalise r office newest .effect) → Lawful r (finalise r office newest .effect)
 unfolding finalise withState
 lawful-finalise r office newest a grows =
@@ -217,7 +215,7 @@ in-history r kind h b t =
     signature r h b (f .0) (f .1) (both-right _ _ (f .2))
 
 lawful-bad-send : (r : Book) (sender : Office) (kind : Kind) (signer : Office) (about : Block) → Ranges r
-    → Accepted r (steps.BadSend sender kind signer about) → Grows r (badSend r sender kind signer about .effect)
+    → Accepted r (Step.BadSend sender kind signer about) → Grows r (badSend r sender kind signer about .effect)
     → Lawful r (badSend r sender kind signer about .effect)
 unfolding badSend withSent
 lawful-bad-send r sender kind signer about z a grows =
@@ -246,17 +244,17 @@ lawful-quiet r s grows epoch marks count states =
 -- every accepted step
 lawful-accepted : (r : Book) (step : Step) → Ranges r → Accepted r step → Grows r (ruleOf r step .effect) → Lawful r (ruleOf r step .effect)
 unfolding ruleOf register deliver draft advance withMoved withBlock withNextEpoch
-lawful-accepted r (steps.Propose office parent w) z a g = lawful-propose r office parent w z a g
-lawful-accepted r (steps.Vote office message) z a g = lawful-vote r office message z a g
-lawful-accepted r (steps.Register office message) z a g = lawful-quiet r _ g refl refl refl refl
-lawful-accepted r (steps.Finalise office newest) z a g = lawful-finalise r office newest a g
-lawful-accepted r (steps.Deliver message office) z a g = lawful-quiet r _ g refl refl refl refl
-lawful-accepted r (steps.BadSend sender kind signer about) z a g = lawful-bad-send r sender kind signer about z a g
-lawful-accepted r (steps.Draft parent epoch w) z a g =
+lawful-accepted r (Step.Propose office parent w) z a g = lawful-propose r office parent w z a g
+lawful-accepted r (Step.Vote office message) z a g = lawful-vote r office message z a g
+lawful-accepted r (Step.Register office message) z a g = lawful-quiet r _ g refl refl refl refl
+lawful-accepted r (Step.Finalise office newest) z a g = lawful-finalise r office newest a g
+lawful-accepted r (Step.Deliver message office) z a g = lawful-quiet r _ g refl refl refl refl
+lawful-accepted r (Step.BadSend sender kind signer about) z a g = lawful-bad-send r sender kind signer about z a g
+lawful-accepted r (Step.Draft parent epoch w) z a g =
     let new : Header = record { parent = parent; epoch = epoch; payload = w } in
     lawful-quiet r _ g (named-keeps r new (λ (x : Book). x .epoch .0) refl) (named-keeps r new (λ (x : Book). x .acted) refl)
     (named-keeps r new (λ (x : Book). x .count) refl) (named-keeps r new (λ (x : Book). x .offices) refl)
-lawful-accepted r steps.Advance z a g =
+lawful-accepted r Step.Advance z a g =
     record { grows = g; clock = later (omega arith); one = omega arith; news = λ m l. inl l; finals = λ p t. inl refl }
 
 -- every step

@@ -7,7 +7,7 @@ use mathlib.Core.Logic.{_⊎_}
 use lib.ListN.{length, getD, take, drop}
 use Rattle.register.specs.declared.sorts.Office.{Office}
 use Rattle.register.specs.declared.sorts.Block.{Block}
-use Rattle.register.specs.declared.step.Step.the-variants.{Advance}
+use Rattle.register.specs.declared.step.Step.{Step}
 use Rattle.register.specs.declared.table.Register.{Register}
 use Rattle.register.specs.Books.{bookOf}
 use Rattle.register.specs.Tables.{trusted, finalOf, headerOf, contentOf}
@@ -64,7 +64,7 @@ NeverPart =
 -- registers as calls hand them on: the first is what the opening gave, and each next one is what a step gave back for the register before it
 pub record HandedOn (run : Run) (given : ℕ → Register) : Type 0 where
   pub first : given 0 ≡ opened run
-  pub next : (i : ℕ) → i < length (run .steps) → given (suc i) ≡ stepRule (given i) (getD (run .steps) i Advance) .register
+  pub next : (i : ℕ) → i < length (run .steps) → given (suc i) ≡ stepRule (given i) (getD (run .steps) i Step.Advance) .register
 
 -- Registers that calls hand on are the moments, so that the claim is one about what the calls give back.
 unfoldable pub CallsAreMoments : Type 0

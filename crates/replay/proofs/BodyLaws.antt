@@ -10,7 +10,6 @@ use lib.ListN.{length}
 use Rattle.words.specs.Tests.{choose}
 use Rattle.register.specs.declared.step.Step.{Step}
 use Rattle.packed_log.specs.declared.item.Item.{Item}
-use Rattle.packed_log.specs.declared.item.Item.the-variants as items
 use Rattle.packed_log.specs.declared.item.Read.{Read}
 use Rattle.packed_log.specs.declared.item.Skipped.{Skipped}
 use Rattle.packed_log.specs.declared.opening.Opening.{Opening}
@@ -22,9 +21,9 @@ use Rattle.replay.specs.Bodies.{Body, begun, bodyFrom, bodyAt, bodyOf, f
 
 -- what an item that is read at position p keeps to: a step takes four bits or more of a log that is not too long; a refusal has a number
 unfoldable Sound : (log : List ℕ) → (p next : ℕ) → Item → Type 0
-Sound log p next (items.Step s) = (p + 4 ≤ next) × (next ≤ 8 * length log) × (length log ≤ 65536)
-Sound log p next items.End = record {}
-Sound log p next (items.Refused number) = 0 < number
+Sound log p next (Item.Step s) = (p + 4 ≤ next) × (next ≤ 8 * length log) × (length log ≤ 65536)
+Sound log p next Item.End = record {}
+Sound log p next (Item.Refused number) = 0 < number
 
 -- so does every item
 sound : (log : List ℕ) (p : ℕ) (x : Skipped) → Outcome log p x → Sound log p (x .next) (withFields log p x)
@@ -42,9 +41,9 @@ item-sound log p = sound log p (skippedAt log p) (outcome log p)
 same-rest : (log : List ℕ) (p next : ℕ) (item : Item) (x y : Body) → Sound log p next item
     → (left log next < left log p → x ≡ y) → begun item x ≡ begun item y
 unfolding Sound begun
-same-rest log p next (items.Step s) x y sound h = ap (λ (b : Body). begun (items.Step s) b) (h (omega arith))
-same-rest log p next items.End x y sound h = refl
-same-rest log p next (items.Refused number) x y sound h = refl
+same-rest log p next (Item.Step s) x y sound h = ap (λ (b : Body). begun (Item.Step s) b) (h (omega arith))
+same-rest log p next Item.End x y sound h = refl
+same-rest log p next (Item.Refused number) x y sound h = refl
 
 -- fuel beyond the bits that are left does not matter
 fuel-same : (f g : ℕ) (log : List ℕ) (p : ℕ) → left log p < f → left log p < g → bodyFrom f log p ≡ bodyFrom g log p
@@ -99,9 +98,9 @@ item-reads : (log : List ℕ) (p : ℕ) (item : Item) (rest : Body) → itemAt l
     → (left log (itemAt log p .next) < left log p → rest .refusal ≡ 0 → ReadsFrom log (itemAt log p .next) (rest .steps))
     → begun item rest .refusal ≡ 0 → ReadsFrom log p (begun item rest .steps)
 unfolding Sound begun ReadsFrom
-item-reads log p (items.Step s) rest here sound behind none = (here, behind (omega arith) none)
-item-reads log p items.End rest here sound behind none = here
-item-reads log p (items.Refused number) rest here sound behind none = absurd (omega arith)
+item-reads log p (Item.Step s) rest here sound behind none = (here, behind (omega arith) none)
+item-reads log p Item.End rest here sound behind none = here
+item-reads log p (Item.Refused number) rest here sound behind none = absurd (omega arith)
 
 -- with enough fuel, a body without a refusal is what the log reads as
 from-reads : (fuel : ℕ) (log : List ℕ) (p : ℕ) → left log p < fuel → bodyFrom fuel log p .refusal ≡ 0
@@ -120,9 +119,9 @@ body-reads log p none = from-reads (left log p + 1) log p (omega arith) none
 few-item : (log : List ℕ) (p next : ℕ) (item : Item) (rest : Body) → Sound log p next item → 4 * length (rest .steps) ≤ left log next
     → 4 * length (begun item rest .steps) ≤ min (left log p) 524288
 unfolding Sound begun
-few-item log p next (items.Step s) rest sound few = omega arith
-few-item log p next items.End rest sound few = omega arith
-few-item log p next (items.Refused number) rest sound few = omega arith
+few-item log p next (Item.Step s) rest sound few = omega arith
+few-item log p next Item.End rest sound few = omega arith
+few-item log p next (Item.Refused number) rest sound few = omega arith
 
 -- a body has at most a quarter as many steps as there are bits left, and as a log may have
 few-from : (fuel : ℕ) (log : List ℕ) (p : ℕ) → 4 * length (bodyFrom fuel log p .steps) ≤ min (left log p) 524288

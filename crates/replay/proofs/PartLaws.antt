@@ -11,7 +11,6 @@ use Rattle.register.specs.declared.step.Step.{Step}
 use Rattle.register.specs.declared.table.Register.{Register}
 use Rattle.register.specs.declared.table.Ran.{Ran}
 use Rattle.register.specs.Runs.{ran}
-use Rattle.packed_log.specs.declared.item.Item.the-variants as items
 use Rattle.replay.specs.declared.body.Slot.{Slot}
 use Rattle.replay.specs.declared.body.Part.{Part}
 use Rattle.replay.specs.Bodies.{Body, begun, bodyAt}
@@ -49,7 +48,7 @@ module _ (log : List ℕ) (p : ℕ) where
 
   -- one step more
   pub gathered-step : (part : Part) (step : Step) (next : ℕ) → Gathered log p part → part .count < 256
-      → bodyAt log (part .next) ≡ begun (items.Step step) (bodyAt log next)
+      → bodyAt log (part .next) ≡ begun (Item.Step step) (bodyAt log next)
       → Gathered log p (record { slots = set (part .slots) (part .count) (record { step = step }); count = part .count + 1; next = next })
   unfolding ahead begun
   gathered-step part step next so-far less one =

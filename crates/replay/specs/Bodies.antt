@@ -5,7 +5,6 @@ use lib.Dec.{eqb}
 use Rattle.words.specs.Tests.{choose}
 use Rattle.register.specs.declared.step.Step.{Step}
 use Rattle.packed_log.specs.declared.item.Item.{Item}
-use Rattle.packed_log.specs.declared.item.Item.the-variants as items
 use Rattle.packed_log.specs.Items.{left, itemAt}
 use Rattle.packed_log.specs.Openings.{openingIn}
 
@@ -16,9 +15,9 @@ pub record Body : Type 0 where
 
 -- the body that begins with an item: a step stands in front of the rest, any other item closes the body
 unfoldable pub begun : Item → (rest : Body) → Body
-begun (items.Step s) rest = record { steps = s ∷ rest .steps; refusal = rest .refusal }
-begun items.End rest = record { steps = []; refusal = 0 }
-begun (items.Refused number) rest = record { steps = []; refusal = number }
+begun (Item.Step s) rest = record { steps = s ∷ rest .steps; refusal = rest .refusal }
+begun Item.End rest = record { steps = []; refusal = 0 }
+begun (Item.Refused number) rest = record { steps = []; refusal = number }
 
 -- the body from position p on, as far as the fuel reaches
 unfoldable pub bodyFrom : (fuel : ℕ) → (log : List ℕ) → (p : ℕ) → Body

@@ -9,7 +9,7 @@ use packed_log::Item;
 use packed_log::item::read_item;
 use packed_log::item::skip_item;
 use register::Step;
-use register::run::BATCH;
+use register::limits::BATCH;
 use register::run::Batch;
 
 // The refusal that reading the log from position `at` on ends with; 0 where it ends with the end.
@@ -43,7 +43,7 @@ pub struct Slot {
 
 // A part of a log's steps, in the first `count` slots, and the position behind them.
 pub struct Part {
-    pub slots: [Slot; 256],
+    pub slots: [Slot; BATCH],
     pub count: usize,
     pub next: usize,
 }
@@ -55,7 +55,7 @@ pub fn read_part(log: &[u8], at: usize) -> Part
     let empty = Slot {
         step: Step::Advance,
     };
-    let mut slots = [empty; 256];
+    let mut slots = [empty; BATCH];
     let mut count = 0;
     let mut next = at;
     while count < BATCH {
@@ -72,10 +72,10 @@ pub fn read_part(log: &[u8], at: usize) -> Part
 }
 
 // The steps in some slots, as a batch to run.
-pub fn steps_of(slots: [Slot; 256]) -> Batch
+pub fn steps_of(slots: [Slot; BATCH]) -> Batch
     ensures { λ r. ⌜ r ≡ stepsOf slots ⌝ }
 {
-    let mut steps = [Step::Advance; 256];
+    let mut steps = [Step::Advance; BATCH];
     let mut i = 0;
     while i < BATCH {
         let slot = slots[i];

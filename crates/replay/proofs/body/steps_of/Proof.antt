@@ -32,16 +32,10 @@ loop-again c =
 pub steps-of-spec : {M : Type 1} → statement M
 unfolding stepsOf
 steps-of-spec =
-    tie.close
-    (tie.spec
+    tie.close (tie.spec
     Inv-loop
     μ-loop
     (λ c. (search needs, record { long = sym (full c); same = refl }))
-    (λ c. search needs)
-    (λ c. search needs)
-    (λ c. search needs)
-    (λ c. search needs)
-    (λ c. search needs)
-    (λ c. search needs)
+    (search needs) (search needs) (search needs) (search needs) (search needs) (search needs)
     loop-again
     (λ c. copied-all step _ _ _ (omega (arith, full (c .before .before))) (c .before .loop .inv .1)))

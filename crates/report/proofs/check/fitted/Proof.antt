@@ -9,9 +9,7 @@ use Rattle.report.proofs.check.fitted.Tie as tie
 pub fitted-spec : {M : Type 1} → statement M
 unfolding choose
 fitted-spec =
-    tie.close
-    (tie.spec
+    tie.close (tie.spec
     (λ c. rw (le-leb _ _ (c .if1 .taken)) (refl, refl))
-    (λ c κs. search needs)
-    (λ c. search needs)
+    (search needs) (search needs)
     (λ c. rw (lt-leb _ _ (c .before .before .before .before .if1 .left)) (refl, c .before .before .clear .ensures)))

@@ -30,13 +30,8 @@ returns-2 c =
 
 pub write-report-spec : {M : Type 1} → statement M
 write-report-spec =
-    tie.close
-    (tie.spec
-    (λ c κs. search needs)
-    (λ c κs. search needs)
-    (λ c κs. search needs)
-    (λ c. search needs)
+    tie.close (tie.spec
+    (search needs) (search needs) (search needs) (search needs)
     returns
-    (λ c κs. search needs)
-    (λ c. search needs)
+    (search needs) (search needs)
     returns-2)

@@ -34,18 +34,11 @@ returns c =
 pub write-batch-spec : {M : Type 1} → statement M
 unfolding batchLines
 write-batch-spec =
-    tie.close
-    (tie.spec
+    tie.close (tie.spec
     Inv-loop
     μ-loop
     (λ c. (search needs, omega arith, record { counted = sym (add-zero _); laid = refl }))
-    (λ c. search needs)
-    (λ c. search needs)
-    (λ c. search needs)
-    (λ c. search needs)
-    (λ c κs. search needs)
-    (λ c. search needs)
-    (λ c. search needs)
+    (search needs) (search needs) (search needs) (search needs) (search needs) (search needs) (search needs)
     loop-again
     (λ c. same-size (c .before .loop .inv .2))
     returns)

@@ -32,12 +32,8 @@ returns-2 c =
 
 pub write-office-spec : {M : Type 1} → statement M
 write-office-spec =
-    tie.close
-    (tie.spec
-    (λ c κs. search needs)
+    tie.close (tie.spec
+    (search needs)
     returns
-    (λ c κs. search needs)
-    (λ c κs. search needs)
-    (λ c κs. search needs)
-    (λ c. search needs)
+    (search needs) (search needs) (search needs) (search needs)
     returns-2)

@@ -34,14 +34,12 @@ returns c =
 pub write-offices-spec : {M : Type 1} → statement M
 unfolding officeLines
 write-offices-spec =
-    tie.close
-    (tie.spec
+    tie.close (tie.spec
     Inv-loop
     μ-loop
     (λ c. (search needs, omega arith, record { counted = sym (add-zero _); laid = refl }))
     (λ c κs. (omega arith, omega arith))
-    (λ c. search needs)
-    (λ c. search needs)
+    (search needs) (search needs)
     loop-again
     (λ c. same-size (c .before .loop .inv .2))
     returns)

@@ -44,16 +44,13 @@ returns c =
 
 pub write-decimal-spec : {M : Type 1} → statement M
 write-decimal-spec =
-    tie.close
-    (tie.spec
+    tie.close (tie.spec
     Inv-loop
     μ-loop
-    (λ c κs. search needs)
-    (λ c. search needs)
+    (search needs) (search needs)
     (λ c. (search needs, search needs, search needs, refl))
     (λ c. omega (arith, decimal-some (c .before .loop .rest) (omega arith) .0))
-    (λ c κs. search needs)
-    (λ c. search needs)
+    (search needs) (search needs)
     loop-again
     (λ c κs. (omega arith, omega arith))
     (λ c. same-size (returns c .0))

@@ -39,15 +39,12 @@ returns c =
 
 pub write-word-spec : {M : Type 1} → statement M
 write-word-spec =
-    tie.close
-    (tie.spec
+    tie.close (tie.spec
     Inv-loop
     μ-loop
-    (λ c. search needs)
-    (λ c. search needs)
+    (search needs) (search needs)
     put-requires
-    (λ c. search needs)
-    (λ c. search needs)
+    (search needs) (search needs)
     loop-again
     (λ c. same-size (c .before .loop .inv .1))
     returns)
