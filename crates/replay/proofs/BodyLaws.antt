@@ -55,7 +55,7 @@ fuel-same (suc f) (suc g) log p enough more =
     (λ less. fuel-same f g log (itemAt log p .next) (omega arith) (omega arith))
 
 -- a body is its first item with the body behind that item
-body-begins : (log : List ℕ) (p : ℕ) → bodyAt log p ≡ begun (itemAt log p .item) (bodyAt log (itemAt log p .next))
+pub body-begins : (log : List ℕ) (p : ℕ) → bodyAt log p ≡ begun (itemAt log p .item) (bodyAt log (itemAt log p .next))
 unfolding bodyAt bodyFrom
 body-begins log p =
     let next : ℕ = itemAt log p .next in

@@ -1,97 +1,116 @@
--- Parts: gathering one step after the other, up to a whole part.
-use Prim.Native.Nat.{ℕ, zero, suc, _+_, _≤_, _<_, min}
+-- Parts: gathering one step after the other, up to a whole part, and what a part is for.
+use Prim.Native.Nat.{ℕ, zero, suc, _+_, _-_, _≤_, _<_, min}
 use mathlib.Core.Path.{_≡_, refl, sym, ap, _∙_}
-use mathlib.Core.List.{List, [], _∷_, _++_, append-nil, append-assoc}
+use mathlib.Core.List.{List, [], _∷_, _++_, append-nil, append-assoc, map, map-append, map-map, map-id}
 use mathlib.Core.Logic.{_⊎_, inl, inr}
-use native.Mathlib.Numerals.{add-one}
 use native.Mathlib.Omega.{arith}
-use lib.ListN.{length, take, drop, set, replicate, length-take, length-drop, length-set, length-map, drop-of-length-le}
-use lib.Seq.{length-take-le, take-all, take-at, drop-at}
+use lib.ListN.{length, take, drop, set, replicate, length-append, length-drop, length-map}
+use lib.Seq.{length-take-le, take-at, drop-cons, set-at}
 use Rattle.register.specs.declared.step.Step.{Step}
+use Rattle.register.specs.declared.step.Step.the-variants.{Advance}
 use Rattle.register.specs.declared.table.Register.{Register}
 use Rattle.register.specs.declared.table.Ran.{Ran}
 use Rattle.register.specs.Runs.{ran}
+use Rattle.packed_log.specs.declared.item.Item.{Item}
+use Rattle.packed_log.specs.declared.item.Item.the-variants as items
+use Rattle.packed_log.specs.declared.item.Read.{Read}
+use Rattle.packed_log.specs.Items.{itemAt}
 use Rattle.replay.specs.declared.body.Slot.{Slot}
 use Rattle.replay.specs.declared.body.Part.{Part}
 use Rattle.replay.specs.Bodies.{Body, begun, bodyAt}
-use Rattle.replay.specs.Parts.{stepsOf, without, PartAt}
+use Rattle.replay.specs.Parts.{stepsOf, slotsOf, behind, partAt}
+use Rattle.replay.proofs.BodyLaws.{body-begins}
 
--- a body with some steps in front
-unfoldable pub ahead : List Step → Body → Body
-ahead ss body = record { steps = ss ++ body .steps; refusal = body .refusal }
-
--- what is gathered from position p on: the steps in the first slots, and from the position behind them on the rest of the body
+-- what is gathered from position p on: some steps, in slots, with the rest of the body behind them
 pub record Gathered (log : List ℕ) (p : ℕ) (part : Part) : Type 0 where
-  pub slots : length (part .slots) ≡ 256
-  pub count : part .count ≤ 256
-  pub body : bodyAt log p ≡ ahead (take (part .count) (stepsOf (part .slots))) (bodyAt log (part .next))
+  pub steps : List Step
+  pub few : length steps ≤ 256
+  pub count : part .count ≡ length steps
+  pub slots : part .slots ≡ slotsOf steps
+  pub next : part .next ≡ behind log p (length steps)
+  pub body : bodyAt log p .steps ≡ steps ++ bodyAt log (part .next) .steps
 
--- a step that is put into slot i comes behind the i steps in front of it
-take-put : (slots : List Slot) (i : ℕ) (slot : Slot) → i < length slots
-    → take (suc i) (stepsOf (set slots i slot)) ≡ take i (stepsOf slots) ++ slot .step ∷ []
-unfolding stepsOf
-take-put [] i slot less = absurd (omega arith)
-take-put (x ∷ slots) zero slot less = refl
-take-put (x ∷ slots) (suc i) slot less = ap (λ (ss : List Step). x .step ∷ ss) (take-put slots i slot (omega arith))
+-- steps are all of the first 256 where they are 256, or where none follows
+all-there : (ss rest : List Step) → length ss ≤ 256 → (length ss ≡ 256) ⊎ (rest ≡ []) → length ss ≡ min 256 (length (ss ++ rest))
+all-there ss rest few (inl all) = simp length-append (omega arith)
+all-there ss rest few (inr none) = rw (none, append-nil) (omega arith)
 
--- steps and the rest behind them are parted at 256 where there are 256 steps, or fewer with no step behind them
-parted : (ss rest : List Step) → length ss ≤ 256 → (length ss ≡ 256) ⊎ (rest ≡ [])
-    → (take 256 (ss ++ rest) ≡ ss) × (drop 256 (ss ++ rest) ≡ rest)
-parted ss rest small (inl all) = (take-at ss rest 256 all, drop-at ss rest 256 all)
-parted ss rest small (inr none) = rw (none, append-nil) (take-all 256 ss small, drop-of-length-le ss {i = 256} small)
+-- a step that is put into the next slot comes behind the others
+slot-put : (ss : List Step) (s : Step) → length ss < 256 → set (slotsOf ss) (length ss) (record { step = s }) ≡ slotsOf (ss ++ s ∷ [])
+unfolding slotsOf
+slot-put ss s less =
+    let one-less : 256 - length ss ≡ suc (256 - length (ss ++ s ∷ [])) = simp length-append (omega arith) in
+    let slot : Step → Slot = λ x. record { step = x } in
+    rw one-less (simp (map-append, append-assoc) (set-at (map slot ss) _ _ _ _ (length-map ss slot)))
 
 module _ (log : List ℕ) (p : ℕ) where
   -- nothing gathered yet
-  pub gathered-none : (empty : Slot) → Gathered log p (record { slots = replicate 256 empty; count = 0; next = p })
-  unfolding ahead
-  gathered-none empty = record { slots = refl; count = omega arith; body = refl }
+  pub gathered-none : Gathered log p (record { slots = replicate 256 (record { step = Advance }); count = 0; next = p })
+  unfolding slotsOf behind
+  gathered-none = record { steps = []; few = omega arith; count = refl; slots = refl; next = refl; body = refl }
 
   -- one step more
-  pub gathered-step : (part : Part) (step : Step) (next : ℕ) → Gathered log p part → part .count < 256
-      → bodyAt log (part .next) ≡ begun (Item.Step step) (bodyAt log next)
-      → Gathered log p (record { slots = set (part .slots) (part .count) (record { step = step }); count = part .count + 1; next = next })
-  unfolding ahead begun
-  gathered-step part step next so-far less one =
-      let i : ℕ = part .count in
-      let slot : Slot = record { step = step } in
-      let put : take (suc i) (stepsOf (set (part .slots) i slot)) ≡ take i (stepsOf (part .slots)) ++ step ∷ [] =
-      take-put (part .slots) i slot (omega (arith, so-far .slots)) in
+  pub gathered-step : (part : Part) (step : Step) (read : Read) → Gathered log p part → part .count < 256 → read ≡ itemAt log (part .next)
+      → bodyAt log (part .next) ≡ begun (items.Step step) (bodyAt log (read .next))
+      → Gathered log p (record { slots = set (part .slots) (part .count) (record { step = step }); count = part .count + 1; next = read .next })
+  unfolding behind begun
+  gathered-step part step read so-far less here one =
+      let ss : List Step = so-far .steps in
+      let more : length (ss ++ step ∷ []) ≡ suc (length ss) = simp length-append (omega arith) in
       record {
-        slots = rw length-set (so-far .slots);
-        count = omega arith;
-        body = so-far .body ∙ rw (one, add-one, put, append-assoc);
+        steps = ss ++ step ∷ [];
+        few = omega (arith, so-far .count);
+        count = omega (arith, so-far .count);
+        slots = rw (so-far .slots, so-far .count) (slot-put ss step (omega (arith, so-far .count)));
+        next = rw (here, more, so-far .next);
+        body = so-far .body ∙ rw (one, append-assoc);
       }
 
   -- a part is whole with 256 steps, or where no step follows
-  pub gathered-part : (part : Part) → Gathered log p part → (part .count ≡ 256) ⊎ (bodyAt log (part .next) .steps ≡ []) → PartAt log p part
-  unfolding ahead without stepsOf
+  pub gathered-part : (part : Part) → Gathered log p part → (part .count ≡ 256) ⊎ (bodyAt log (part .next) .steps ≡ []) → part ≡ partAt log p
+  unfolding partAt
   gathered-part part so-far whole =
-      let ss : List Step = take (part .count) (stepsOf (part .slots)) in
-      let rest : Body = bodyAt log (part .next) in
-      let sized : length ss ≡ part .count =
-      length-take-le (part .count) (stepsOf (part .slots)) (rw (length-map, so-far .slots) (so-far .count)) in
-      let halves : (take 256 (ss ++ rest .steps) ≡ ss) × (drop 256 (ss ++ rest .steps) ≡ rest .steps) =
-      parted ss (rest .steps) (omega arith) (rw sized whole) in
-      let front : ss ≡ take 256 (bodyAt log p .steps) = rw (so-far .body) (sym (halves .0)) in
-      record {
-        count = sym sized ∙ ap length front ∙ length-take 256 (bodyAt log p .steps);
-        steps = front;
-        rest = rw (so-far .body, halves .1);
-      }
+      let ss : List Step = so-far .steps in
+      let front : take (length ss) (bodyAt log p .steps) ≡ ss = rw (so-far .body) (take-at ss _ (length ss) refl) in
+      let all : length ss ≡ min 256 (length (bodyAt log p .steps)) = rw (so-far .body) (all-there ss _ (so-far .few) (rw (so-far .count) at whole)) in
+      rw (← all, front) (λ i. record { slots = so-far .slots i; count = so-far .count i; next = so-far .next i })
 
--- what is left behind a part is the body without its first 256 steps
-pub part-rest : (log : List ℕ) (p : ℕ) (part : Part) → PartAt log p part → bodyAt log (part .next) .steps ≡ drop 256 (bodyAt log p .steps)
-unfolding without
-part-rest log p part h = ap (λ (b : Body). b .steps) (h .rest)
+-- an item in front is passed over
+passed : (item : Item) (rest : Body) (ss : List Step) (k : ℕ) → begun item rest .steps ≡ drop k ss → k < length ss → rest .steps ≡ drop (suc k) ss
+unfolding begun
+passed (items.Step s) rest ss k e less = cc (drop-cons ss k s less)
+passed items.End rest ss k e less = absurd (omega (arith, simp length-drop at (ap length e)))
+passed (items.Refused number) rest ss k e less = absurd (omega (arith, simp length-drop at (ap length e)))
 
--- behind a part that is not empty there are fewer steps
-pub part-fewer : (log : List ℕ) (p : ℕ) (part : Part) → PartAt log p part → (part .count ≡ 0 → ⊥)
-    → length (bodyAt log (part .next) .steps) < length (bodyAt log p .steps)
-part-fewer log p part h some = rw (part-rest log p part h, length-drop) (omega (arith, h .count))
+-- behind k steps there is the body without them
+rest-behind : (log : List ℕ) (p k : ℕ) → k ≤ length (bodyAt log p .steps) → bodyAt log (behind log p k) .steps ≡ drop k (bodyAt log p .steps)
+unfolding behind
+rest-behind log p zero less = refl
+rest-behind log p (suc k) less =
+    passed (itemAt log (behind log p k) .item) _ (bodyAt log p .steps) k
+    (sym (ap (λ (b : Body). b .steps) (body-begins log (behind log p k))) ∙ rest-behind log p k (omega arith)) less
 
--- the batch of a part's steps, run, gives what the body's first 256 steps give
-pub part-ran : (log : List ℕ) (p : ℕ) (part : Part) (r : Register) (batch : List Step) (given : Ran) → PartAt log p part
-    → batch ≡ stepsOf (part .slots) → given ≡ ran r (take (min (part .count) 256) batch) → given ≡ ran r (take 256 (bodyAt log p .steps))
-part-ran log p part r batch given h holds runs =
-    let same : min (part .count) 256 ≡ part .count = omega (arith, h .count) in
-    runs ∙ rw (same, holds, h .steps)
+module _ (log : List ℕ) (p : ℕ) (part : Part) (read : part ≡ partAt log p) where
+  -- how many steps a part has
+  pub part-count : part .count ≡ min 256 (length (bodyAt log p .steps))
+  unfolding partAt
+  part-count = ap (λ (x : Part). x .count) read
+
+  -- what is left behind a part is the body without its steps
+  pub part-rest : bodyAt log (part .next) .steps ≡ drop (part .count) (bodyAt log p .steps)
+  unfolding partAt
+  part-rest = rw read (rest-behind log p _ (omega arith))
+
+  -- behind a part that is not empty there are fewer steps
+  pub part-fewer : (part .count ≡ 0 → ⊥) → length (bodyAt log (part .next) .steps) < length (bodyAt log p .steps)
+  part-fewer some = rw (part-rest, length-drop) (omega (arith, part-count))
+
+  -- the batch of a part's steps, run, gives what the body's first steps give
+  pub part-ran : (r : Register) (batch : List Step) (given : Ran) → batch ≡ stepsOf (part .slots)
+      → given ≡ ran r (take (min (part .count) 256) batch) → given ≡ ran r (take (part .count) (bodyAt log p .steps))
+  unfolding partAt stepsOf slotsOf
+  part-ran r batch given holds runs =
+      let count : ℕ = min 256 (length (bodyAt log p .steps)) in
+      let ss : List Step = take count (bodyAt log p .steps) in
+      let long : length ss ≡ min count 256 = length-take-le count (bodyAt log p .steps) (omega arith) ∙ omega arith in
+      runs ∙ rw (holds, read) (simp (map-map, map-id) (ap (ran r) (take-at ss _ _ long)))

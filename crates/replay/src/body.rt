@@ -4,7 +4,7 @@ ghost use lib.Dec.{eqb};
 ghost use Rattle.words.specs.Lent.{lent};
 ghost use Rattle.words.specs.Tests.{choose};
 ghost use Rattle.replay.specs.Bodies.{bodyAt};
-ghost use Rattle.replay.specs.Parts.{stepsOf, PartAt};
+ghost use Rattle.replay.specs.Parts.{stepsOf, partAt};
 use packed_log::Item;
 use packed_log::item::read_item;
 use packed_log::item::skip_item;
@@ -50,7 +50,7 @@ pub struct Part {
 
 // The steps from position `at` on, up to a batch of them. Each item is read once.
 pub fn read_part(log: &[u8], at: usize) -> Part
-    ensures { λ r. ⌜ PartAt (lent log) at r ⌝ }
+    ensures { λ r. ⌜ r ≡ partAt (lent log) at ⌝ }
 {
     let empty = Slot {
         step: Step::Advance,

@@ -1,11 +1,11 @@
 -- The text of a run: its lines, those of a batch that was run, and all of it written part by part.
-use Prim.Native.Nat.{ℕ, zero, suc, _+_, _*_, _≤_, _<_, min}
+use Prim.Native.Nat.{ℕ, zero, suc, _+_, _*_, _≤_, _<_}
 use mathlib.Core.Path.{_≡_, refl, sym, ap, _∙_}
 use mathlib.Core.Bool.{true, false}
 use mathlib.Core.List.{List, [], _∷_, _++_, map, append-assoc, append-nil}
 use native.Mathlib.Nat.{add-zero}
 use native.Mathlib.Omega.{arith}
-use lib.ListN.{length, getD, take, drop, length-take, length-drop, length-map, take-append-drop, List·getD-append, List·getD-map}
+use lib.ListN.{length, getD, take, drop, length-drop, length-map, take-append-drop, List·getD-append, List·getD-map}
 use lib.Seq.{take-suc, take-all, length-take-le}
 use Rattle.words.specs.Tests.{choose}
 use Rattle.register.specs.declared.sorts.Block.{Block}
@@ -64,12 +64,11 @@ lines-first place ss d k v (suc i) h =
     )
 
 -- the lines of a batch that was run are those of its answers
-ran-lines : (r : Register) (place : ℕ) (ss : List Stepped)
-    → batchLines place (padded (map (λ (s : Stepped). s .refusal) ss)) (padded (map (λ (s : Stepped). s .value) ss)) (length ss)
-    ≡ stepLines place ss
-ran-lines r place ss =
-    lines-first place ss (record { register = r; refusal = 0; value = 0 }) refl refl (length ss) (omega arith)
-    ∙ ap (stepLines place) (take-all (length ss) ss (omega arith))
+ran-lines : (r : Register) (place : ℕ) (ss : List Stepped) (count : ℕ) → length ss ≡ count
+    → batchLines place (padded (map (λ (s : Stepped). s .refusal) ss)) (padded (map (λ (s : Stepped). s .value) ss)) count ≡ stepLines place ss
+ran-lines r place ss count long =
+    lines-first place ss (record { register = r; refusal = 0; value = 0 }) refl refl count (omega arith)
+    ∙ ap (stepLines place) (take-all count ss (omega arith))
 
 -- an office that is not trusted has no line
 pub office-none : (r : Register) (q : ℕ) → trusted (bookOf r) q ≡ false → officeText r q ≡ []
@@ -97,32 +96,30 @@ pub run-begins : (before : List ℕ) (r : Register) (rest : List Step) → lengt
 run-begins before r rest few = record { sized = refl; finish = λ lines. lines; short = omega arith; few = omega arith }
 
 module _ (r : Register) (place : ℕ) (rest : List Step) (count : ℕ) (given : Ran)
-    (counts : count ≡ min 256 (length rest)) (runs : given ≡ ran r (take 256 rest))
+    (counts : count ≤ length rest) (runs : given ≡ ran r (take count rest))
   where
     -- the register behind the part
-    part-register : given .register ≡ afterSteps r (take 256 rest)
+    part-register : given .register ≡ afterSteps r (take count rest)
     unfolding ran
     part-register = ap (λ (x : Ran). x .register) runs
 
     -- the lines of the part
-    part-lines : batchLines place (given .refusals) (given .values) count ≡ stepLines place (answers r (take 256 rest))
+    part-lines : batchLines place (given .refusals) (given .values) count ≡ stepLines place (answers r (take count rest))
     unfolding ran
     part-lines =
-        let long : count ≡ length (answers r (take 256 rest)) = counts ∙ sym (length-answers r (take 256 rest) ∙ length-take 256 rest) in
-        rw (runs, long) (ran-lines r place (answers r (take 256 rest)))
+        rw runs (ran-lines r place (answers r (take count rest)) count (length-answers r (take count rest) ∙ length-take-le count rest counts))
 
     -- the text from here on is those lines, and then that from behind the part on
     part-text : runLines r place rest
-        ≡ batchLines place (given .refusals) (given .values) count ++ runLines (given .register) (place + count) (drop 256 rest)
+        ≡ batchLines place (given .refusals) (given .values) count ++ runLines (given .register) (place + count) (drop count rest)
     part-text =
-        let long : length (take 256 rest) ≡ count = simp length-take (omega arith) in
-        rw (part-lines, part-register, ← long)
-        (ap (runLines r place) (sym (take-append-drop 256 rest)) ∙ run-append r place (take 256 rest) (drop 256 rest))
+        let whole : runLines r place rest ≡ runLines r place (take count rest ++ drop count rest) = rw take-append-drop in
+        whole ∙ run-append r place (take count rest) (drop count rest) ∙ rw (part-lines, part-register, length-take-le count rest counts)
 
     -- a run comes one part further
     pub run-goes-on : {before report after whole : List ℕ} {next later : ℕ} → SoFar before report whole next place r rest
         → TextWritten report next (batchLines place (given .refusals) (given .values) count) later after → later ≤ next + 17 * count
-        → SoFar before after whole later (place + count) (given .register) (drop 256 rest)
+        → SoFar before after whole later (place + count) (given .register) (drop count rest)
     run-goes-on so-far lines short =
         record {
           sized = same-size lines ∙ so-far .sized;

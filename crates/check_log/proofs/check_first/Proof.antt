@@ -1,6 +1,6 @@
 -- `check_log::check_first`: the part that is lent has as many bytes as are asked for, and its report fits.
 use borrow.Author.Needs.{needs}
-use mathlib.Core.Path.{sym, _∙_}
+use mathlib.Core.Path.{sym}
 use native.Mathlib.Omega.{arith}
 use lib.ListN.{take}
 use lib.Seq.{length-take-le}

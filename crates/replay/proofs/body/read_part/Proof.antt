@@ -7,6 +7,7 @@ use mathlib.Core.Logic.{_⊎_, inl, inr}
 use native.Mathlib.Omega.{arith}
 use denote.Enum.Declared.{tagOf}
 use Rattle.packed_log.specs.declared.item.Item.{Item}
+use Rattle.packed_log.specs.declared.item.Item.the-variants as items
 use Rattle.packed_log.proofs.item.Item as item-laws
 use Rattle.replay.specs.Bodies.{Body, begun, bodyAt}
 use Rattle.replay.proofs.BodyLaws.{body-read}
@@ -27,10 +28,10 @@ tag = tagOf item-laws.the-type
 -- an item that is no step closes the body
 closes : (item : Item) (rest : Body) → (tag item ≡ 1) ⊎ (tag item ≡ 2) → begun item rest .steps ≡ []
 unfolding begun
-closes (Item.Step s) rest (inl other) = absurd (omega arith)
-closes (Item.Step s) rest (inr other) = absurd (omega arith)
-closes Item.End rest other = refl
-closes (Item.Refused number) rest other = refl
+closes (items.Step s) rest (inl other) = absurd (omega arith)
+closes (items.Step s) rest (inr other) = absurd (omega arith)
+closes items.End rest other = refl
+closes (items.Refused number) rest other = refl
 
 -- what the item that was read begins
 by-item : (c : tie.After-read-item Inv-loop μ-loop) (item : Item) → c .read-item .result .item ≡ item
@@ -42,7 +43,8 @@ loop-again : tie.Need-loop-again Inv-loop μ-loop
 loop-again c =
     let at-read = c .before .before .before in
     let at-loop-test = at-read .before in
-    gathered-step _ _ _ _ _ (at-loop-test .before .loop .inv) (at-loop-test .loop-test .taken) (by-item at-read _ (c .before .item .given .1))
+    gathered-step _ _ _ _ (at-read .read-item .result) (at-loop-test .before .loop .inv) (at-loop-test .loop-test .taken)
+    (at-read .read-item .ensures .0) (by-item at-read _ (c .before .item .given .1))
 
 returns-2 : tie.Need-returns-2 Inv-loop μ-loop
 returns-2 c =
@@ -52,13 +54,17 @@ returns-2 c =
 
 pub read-part-spec : {M : Type 1} → statement M
 read-part-spec =
-    tie.close (tie.spec
+    tie.close
+    (tie.spec
     Inv-loop
     μ-loop
-    (λ c. gathered-none _ _ _)
-    (search needs)
+    (λ c. gathered-none _ _)
+    (λ c κs. search needs)
     (λ c. c .match .keys1)
-    (search needs) (search needs) (search needs) (search needs)
+    (λ c. search needs)
+    (λ c. search needs)
+    (λ c. search needs)
+    (λ c. search needs)
     loop-again
-    (λ c. gathered-part _ _ _ (c .before .loop .inv) (inl (omega (arith, c .before .loop .inv .count))))
+    (λ c. gathered-part _ _ _ (c .before .loop .inv) (inl (omega (arith, c .before .loop .inv .count, c .before .loop .inv .few))))
     returns-2)

@@ -1,11 +1,12 @@
 -- `report::run::write_run`: at each turn one part of the steps is read, run and written.
 use borrow.Author.Needs.{needs}
+use Prim.Native.Nat.{_+_, _≤_}
 use mathlib.Core.Path.{_∙_}
 use native.Mathlib.Omega.{arith}
 use lib.ListN.{length}
 use Rattle.replay.specs.Bodies.{bodyAt}
 use Rattle.replay.proofs.BodyLaws.{body-few}
-use Rattle.replay.proofs.PartLaws.{part-rest, part-fewer, part-ran}
+use Rattle.replay.proofs.PartLaws.{part-count, part-rest, part-fewer, part-ran}
 use Rattle.report.specs.Reports.{runLines}
 use Rattle.report.proofs.TextLaws.{same-size}
 use Rattle.report.proofs.RunText.{SoFar, run-begins, run-goes-on, run-ends}
@@ -18,6 +19,19 @@ Inv-loop report₀ log from current₀ at₀ place₀ next₀ report current at 
 
 abbrev μ-loop : tie.MeasureT-loop
 μ-loop report₀ log from current₀ at₀ place₀ next₀ report current at place next = length (bodyAt log at .steps)
+
+-- a part has at most 256 steps, and no more than are left
+counts : (c : tie.After-read-part Inv-loop μ-loop)
+    → (c .read-part .result .count ≤ 256) × (c .before .loop .place + c .read-part .result .count ≤ 131073)
+counts c =
+    let count : _ = part-count _ _ _ (c .read-part .ensures) in
+    (omega (arith, count), omega (arith, count, c .before .loop .inv .few))
+
+write-batch-requires : tie.Need-write-batch-requires Inv-loop μ-loop
+write-batch-requires c κs =
+    let at-part = c .before .before .before .before .before .before .before .before .before in
+    let so-far = at-part .before .loop .inv in
+    (counts at-part .0, counts at-part .1, omega (arith, so-far .short, so-far .few))
 
 loop-less : tie.Need-loop-less Inv-loop μ-loop
 loop-less c =
@@ -33,14 +47,9 @@ loop-again c =
     let turn = at-part .before .loop in
     let read = at-part .read-part .ensures in
     let lines = at-batch .write-batch .ensures in
-    let runs = part-ran _ (turn .at) _ (turn .current) _ _ read (at-steps .steps-of .ensures) (at-run .run .ensures) in
+    let runs = part-ran _ (turn .at) _ read (turn .current) _ _ (at-steps .steps-of .ensures) (at-run .run .ensures) in
     rw (part-rest _ (turn .at) _ read)
-    (run-goes-on (turn .current) (turn .place) _ _ _ (read .count) runs (turn .inv) (lines .0) (lines .1))
-
-same-length : tie.Need-same-length Inv-loop μ-loop
-same-length c =
-    let at-offices = c .before .before in
-    same-size (at-offices .write-offices .ensures .0) ∙ at-offices .before .before .before .before .loop .inv .sized
+    (run-goes-on (turn .current) (turn .place) _ _ _ (omega (arith, part-count _ (turn .at) _ read)) runs (turn .inv) (lines .0) (lines .1))
 
 returns : tie.Need-returns Inv-loop μ-loop
 returns c =
@@ -48,17 +57,22 @@ returns c =
     let at-part = at-offices .before .before .before in
     let so-far = at-part .before .loop .inv in
     let lines = at-offices .write-offices .ensures in
-    (run-ends _ so-far (omega (arith, at-part .read-part .ensures .count)) (lines .0), omega (arith, lines .1, so-far .short, so-far .few))
+    (run-ends _ so-far (omega (arith, part-count _ _ _ (at-part .read-part .ensures))) (lines .0), omega (arith, lines .1, so-far .short, so-far .few))
 
 pub write-run-spec : {M : Type 1} → statement M
 write-run-spec =
-    tie.close (tie.spec
+    tie.close
+    (tie.spec
     Inv-loop
     μ-loop
     (λ c. run-begins _ _ _ (body-few _ _))
-    (search needs) (search needs) (search needs) (search needs) (search needs)
+    (λ c κs. search needs)
+    (λ c κs. search needs)
+    (λ c κs. search needs)
+    write-batch-requires
+    (λ c. omega (arith, counts (c .before .before .before .before .before .before .before .before .before .before .before .before) .1))
     loop-less
     loop-again
-    (search needs)
-    same-length
+    (λ c κs. search needs)
+    (λ c. same-size (c .before .before .write-offices .ensures .0) ∙ c .before .before .before .before .before .before .loop .inv .sized)
     returns)

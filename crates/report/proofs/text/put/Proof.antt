@@ -11,8 +11,5 @@ use Rattle.report.proofs.text.put.Tie as tie
 returns : tie.Need-returns
 returns c = record { counted = refl; laid = ⊎-elim (λ w. w .1) (λ w. w .1 ∙ sym (set-out _ _ _ (omega arith))) (c .if1 .came) }
 
-same-length : tie.Need-same-length
-same-length c = same-size (returns c)
-
 pub put-spec : {M : Type 1} → statement M
-put-spec = tie.close (tie.spec (λ c. search needs) (λ c. search needs) same-length returns)
+put-spec = tie.close (tie.spec (λ c. search needs) (λ c. search needs) (λ c. same-size (returns c)) returns)
