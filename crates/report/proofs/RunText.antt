@@ -1,7 +1,7 @@
 -- The text of a run: its lines, those of a batch that was run, and all of it written part by part.
 use Prim.Native.Nat.{ℕ, zero, suc, _+_, _*_, _≤_, _<_}
 use mathlib.Core.Path.{_≡_, refl, sym, ap, _∙_}
-use mathlib.Core.Bool.{true, false}
+use mathlib.Core.Bool.{true}
 use mathlib.Core.List.{List, [], _∷_, _++_, map, append-assoc, append-nil}
 use native.Mathlib.Nat.{add-zero}
 use native.Mathlib.Omega.{arith}
@@ -69,11 +69,6 @@ ran-lines : (r : Register) (place : ℕ) (ss : List Stepped) (count : ℕ) → l
 ran-lines r place ss count long =
     lines-first place ss (record { register = r; refusal = 0; value = 0 }) refl refl count (omega arith)
     ∙ ap (stepLines place) (take-all count ss (omega arith))
-
--- an office that is not trusted has no line
-pub office-none : (r : Register) (q : ℕ) → trusted (bookOf r) q ≡ false → officeText r q ≡ []
-unfolding officeText choose
-office-none r q h = rw h
 
 -- the line of a trusted office, told from what the register's calls give
 pub office-some : (r : Register) (q size : ℕ) (last : Block) → trusted (bookOf r) q ≡ true → last ≡ block (finalFor (bookOf r) q)

@@ -7,15 +7,18 @@ use native.Mathlib.Omega.{arith}
 use borrow.Author.Tests.{not-true, not-false}
 use Rattle.register.specs.Books.{bookOf}
 use Rattle.register.specs.Tables.{trusted}
-use Rattle.report.proofs.RunText.{office-none, office-some}
+use Rattle.words.specs.Tests.{choose}
+use Rattle.report.specs.Reports.{officeText}
+use Rattle.report.proofs.RunText.{office-some}
 use Rattle.report.proofs.lines.write_office.Statement.{statement}
 use Rattle.report.proofs.lines.write_office.Tie as tie
 
 returns : tie.Need-returns
+unfolding officeText choose
 returns c =
     let a = c .before .before .before .args in
     let none : trusted (bookOf (a .register)) (a .q) ≡ false = sym (c .before .is-trusted .ensures) ∙ not-true _ (c .if1 .taken) in
-    (rw (office-none (a .register) (a .q) none) (record { counted = sym (add-zero _); laid = refl }), omega arith)
+    (rw none (record { counted = sym (add-zero _); laid = refl }), omega arith)
 
 returns-2 : tie.Need-returns-2
 returns-2 c =

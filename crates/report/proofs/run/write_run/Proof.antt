@@ -27,12 +27,6 @@ counts c =
     let count : _ = part-count _ _ _ (c .read-part .ensures) in
     (omega (arith, count), omega (arith, count, c .before .loop .inv .few))
 
-write-batch-requires : tie.Need-write-batch-requires Inv-loop μ-loop
-write-batch-requires c κs =
-    let at-part = c .before .before .before .before .before .before .before .before .before in
-    let so-far = at-part .before .loop .inv in
-    (counts at-part .0, counts at-part .1, omega (arith, so-far .short, so-far .few))
-
 loop-less : tie.Need-loop-less Inv-loop μ-loop
 loop-less c =
     let at-if1 = c .before .before .before .before .before .before .before .before .before .before .before in
@@ -69,7 +63,7 @@ write-run-spec =
     (λ c κs. search needs)
     (λ c κs. search needs)
     (λ c κs. search needs)
-    write-batch-requires
+    (λ c κs. (counts (c .before .before .before .before .before .before .before .before .before) .0, counts (c .before .before .before .before .before .before .before .before .before) .1, omega arith))
     (λ c. omega (arith, counts (c .before .before .before .before .before .before .before .before .before .before .before .before) .1))
     loop-less
     loop-again
