@@ -7,12 +7,10 @@ use native.Mathlib.Omega.{arith}
 use lib.ListN.{length, take, drop, set, replicate, length-append, length-drop, length-map}
 use lib.Seq.{length-take-le, take-at, drop-cons, set-at}
 use Rattle.register.specs.declared.step.Step.{Step}
-use Rattle.register.specs.declared.step.Step.the-variants.{Advance}
 use Rattle.register.specs.declared.table.Register.{Register}
 use Rattle.register.specs.declared.table.Ran.{Ran}
 use Rattle.register.specs.Runs.{ran}
 use Rattle.packed_log.specs.declared.item.Item.{Item}
-use Rattle.packed_log.specs.declared.item.Item.the-variants as items
 use Rattle.packed_log.specs.declared.item.Read.{Read}
 use Rattle.packed_log.specs.Items.{itemAt}
 use Rattle.replay.specs.declared.body.Slot.{Slot}
@@ -45,13 +43,13 @@ slot-put ss s less =
 
 module _ (log : List ℕ) (p : ℕ) where
   -- nothing gathered yet
-  pub gathered-none : Gathered log p (record { slots = replicate 256 (record { step = Advance }); count = 0; next = p })
+  pub gathered-none : Gathered log p (record { slots = replicate 256 (record { step = Step.Advance }); count = 0; next = p })
   unfolding slotsOf behind
   gathered-none = record { steps = []; few = omega arith; count = refl; slots = refl; next = refl; body = refl }
 
   -- one step more
   pub gathered-step : (part : Part) (step : Step) (read : Read) → Gathered log p part → part .count < 256 → read ≡ itemAt log (part .next)
-      → bodyAt log (part .next) ≡ begun (items.Step step) (bodyAt log (read .next))
+      → bodyAt log (part .next) ≡ begun (Item.Step step) (bodyAt log (read .next))
       → Gathered log p (record { slots = set (part .slots) (part .count) (record { step = step }); count = part .count + 1; next = read .next })
   unfolding behind begun
   gathered-step part step read so-far less here one =
@@ -78,9 +76,9 @@ module _ (log : List ℕ) (p : ℕ) where
 -- an item in front is passed over
 passed : (item : Item) (rest : Body) (ss : List Step) (k : ℕ) → begun item rest .steps ≡ drop k ss → k < length ss → rest .steps ≡ drop (suc k) ss
 unfolding begun
-passed (items.Step s) rest ss k e less = cc (drop-cons ss k s less)
-passed items.End rest ss k e less = absurd (omega (arith, simp length-drop at (ap length e)))
-passed (items.Refused number) rest ss k e less = absurd (omega (arith, simp length-drop at (ap length e)))
+passed (Item.Step s) rest ss k e less = cc (drop-cons ss k s less)
+passed Item.End rest ss k e less = absurd (omega (arith, simp length-drop at (ap length e)))
+passed (Item.Refused number) rest ss k e less = absurd (omega (arith, simp length-drop at (ap length e)))
 
 -- behind k steps there is the body without them
 rest-behind : (log : List ℕ) (p k : ℕ) → k ≤ length (bodyAt log p .steps) → bodyAt log (behind log p k) .steps ≡ drop k (bodyAt log p .steps)

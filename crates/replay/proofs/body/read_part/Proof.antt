@@ -7,7 +7,6 @@ use mathlib.Core.Logic.{_⊎_, inl, inr}
 use native.Mathlib.Omega.{arith}
 use denote.Enum.Declared.{tagOf}
 use Rattle.packed_log.specs.declared.item.Item.{Item}
-use Rattle.packed_log.specs.declared.item.Item.the-variants as items
 use Rattle.packed_log.proofs.item.Item as item-laws
 use Rattle.replay.specs.Bodies.{Body, begun, bodyAt}
 use Rattle.replay.proofs.BodyLaws.{body-read}
@@ -28,10 +27,10 @@ tag = tagOf item-laws.the-type
 -- an item that is no step closes the body
 closes : (item : Item) (rest : Body) → (tag item ≡ 1) ⊎ (tag item ≡ 2) → begun item rest .steps ≡ []
 unfolding begun
-closes (items.Step s) rest (inl other) = absurd (omega arith)
-closes (items.Step s) rest (inr other) = absurd (omega arith)
-closes items.End rest other = refl
-closes (items.Refused number) rest other = refl
+closes (Item.Step s) rest (inl other) = absurd (omega arith)
+closes (Item.Step s) rest (inr other) = absurd (omega arith)
+closes Item.End rest other = refl
+closes (Item.Refused number) rest other = refl
 
 -- what the item that was read begins
 by-item : (c : tie.After-read-item Inv-loop μ-loop) (item : Item) → c .read-item .result .item ≡ item
@@ -54,17 +53,13 @@ returns-2 c =
 
 pub read-part-spec : {M : Type 1} → statement M
 read-part-spec =
-    tie.close
-    (tie.spec
+    tie.close (tie.spec
     Inv-loop
     μ-loop
     (λ c. gathered-none _ _)
-    (λ c κs. search needs)
+    (search needs)
     (λ c. c .match .keys1)
-    (λ c. search needs)
-    (λ c. search needs)
-    (λ c. search needs)
-    (λ c. search needs)
+    (search needs) (search needs) (search needs) (search needs)
     loop-again
     (λ c. gathered-part _ _ _ (c .before .loop .inv) (inl (omega (arith, c .before .loop .inv .count, c .before .loop .inv .few))))
     returns-2)

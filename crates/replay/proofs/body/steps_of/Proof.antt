@@ -1,11 +1,11 @@
 -- `replay::body::steps_of`: after i turns the steps of the first i slots are copied.
 use borrow.Author.Needs.{needs}
 use Prim.Native.Nat.{_-_, _≤_}
-use mathlib.Core.Path.{_≡_, refl, sym}
+use mathlib.Core.Path.{_≡_, sym}
 use native.Mathlib.Omega.{arith}
 use lib.ListN.{length}
 use Rattle.register.specs.declared.step.Step.{Step}
-use Rattle.register.proofs.Copying.{Copied, copied-more, copied-all}
+use Rattle.register.proofs.Copying.{Copied, copied-none, copied-more, copied-all}
 use Rattle.replay.specs.declared.body.Slot.{Slot}
 use Rattle.replay.specs.Parts.{stepsOf}
 use Rattle.replay.proofs.body.steps_of.Statement.{statement}
@@ -27,7 +27,7 @@ full c = c .good .0 .1 .0 .1
 loop-again : tie.Need-loop-again Inv-loop μ-loop
 loop-again c =
     let at-loop = c .before .before in
-    (search needs, copied-more step _ _ _ _ (omega (arith, full (at-loop .before))) (at-loop .loop .inv .1))
+    (search needs, copied-more step _ _ (at-loop .loop .inv .1) (omega (arith, full (at-loop .before))))
 
 pub steps-of-spec : {M : Type 1} → statement M
 unfolding stepsOf
@@ -35,7 +35,7 @@ steps-of-spec =
     tie.close (tie.spec
     Inv-loop
     μ-loop
-    (λ c. (search needs, record { long = sym (full c); same = refl }))
+    (λ c. (search needs, copied-none step _ _ (sym (full c))))
     (search needs) (search needs) (search needs) (search needs) (search needs) (search needs)
     loop-again
-    (λ c. copied-all step _ _ _ (omega (arith, full (c .before .before))) (c .before .loop .inv .1)))
+    (λ c. copied-all step _ (c .before .loop .inv .1) (omega (arith, full (c .before .before)))))

@@ -42,7 +42,7 @@ write-word-spec =
     tie.close (tie.spec
     Inv-loop
     μ-loop
-    (search needs) (search needs)
+    (λ c. search needs) (search needs)
     put-requires
     (search needs) (search needs)
     loop-again
