@@ -1,7 +1,7 @@
 -- The tests that a walk over the columns makes at each entry, and what a caller knows of its answer.
-use Prim.Native.Nat.{ℕ, zero, suc, _+_, _≤_}
-use mathlib.Core.Path.{_≡_, _∙_}
-use mathlib.Core.Bool.{Bool, false, Bool·beq, _&&_, _||_}
+use Prim.Native.Nat.{ℕ, zero, suc, _+_, _%_, _≤_, _<_, min}
+use mathlib.Core.Path.{_≡_, sym, _∙_}
+use mathlib.Core.Bool.{Bool, true, false, Bool·beq, _&&_, _||_}
 use mathlib.Core.List.{List}
 use mathlib.Core.Logic.{⊎-elim}
 use native.Mathlib.Omega.{arith}
@@ -10,10 +10,18 @@ use lib.Dec.{eqb}
 use lib.ListN.{getD}
 use Rattle.words.specs.Tests.{both, any}
 use Rattle.words.specs.Digits.{digit}
-use Rattle.words.proofs.Tests.{and-agree, and-both, any-next, any-none, both-none, either-none, lowest-is}
+use Rattle.words.proofs.Tests.{and-agree, and-both, any-make, any-next, any-none, both-none, either-none, lowest-is}
 use Rattle.tables.specs.Blocks.{matchesIn, namedIn}
 use Rattle.tables.specs.Messages.{view, saysIn, historyIn}
 use Rattle.tables.specs.Searches.{signedIn}
+
+-- a walk by chunks of 64 has come to `from`: a chunk starts there, or all messages that were sent are behind it
+abbrev pub AtChunk : (from sent : ℕ) → Type 0
+AtChunk from sent = (from ≤ sent) × (from < sent → from % 64 ≡ 0)
+
+-- and so it has past that chunk
+pub past-chunk : (from sent size : ℕ) → AtChunk from sent → from < sent → from + size ≡ min (from + 64) sent → AtChunk (from + size) sent
+past-chunk from sent size here more e = (omega arith, λ left. omega (arith, here .1 more))
 
 -- message m is in office q's view, and has that signer and that block
 abbrev pub signs : (places signers about : List ℕ) → (q signer b : ℕ) → (m : ℕ) → Bool
@@ -29,13 +37,20 @@ module _ (places signers about : List ℕ) (q s b from : ℕ) where
       rw (add-suc, any-none (λ i. eqb (getD about (from + i) 0) b) 64 size none (omega arith), both-none, both-none, either-none)
       (signed-past size (omega arith) none)
 
-  -- one message more of the chunk
-  pub signed-next : (i : ℕ) (found inside mine : Bool) → found ≡ signedIn places signers about (from + i) q s b
-      → inside ≡ eqb (digit 4 (getD places (from + i) 0) q) view → mine ≡ saysIn signers about s b (from + i)
-      → found || (inside && mine) ≡ signedIn places signers about (from + (i + 1)) q s b
-  unfolding signedIn
-  signed-next i found inside mine e ei em =
-      rw (← (add-assoc from i 1)) (any-next (signs places signers about q s b) (from + i) found (inside && mine) e (and-both inside mine ∙ rw (ei, em)))
+  -- a message of the chunk, as code tests it
+  module _ (i : ℕ) (inside mine : Bool) (ei : inside ≡ eqb (digit 4 (getD places (from + i) 0) q) view) (em : mine ≡ saysIn signers about s b (from + i)) where
+    tested : inside && mine ≡ signs places signers about q s b (from + i)
+    tested = and-both inside mine ∙ rw (ei, em)
+
+    -- it has that signature
+    pub signed-hit : (size : ℕ) → i < size → inside && mine ≡ true → true ≡ signedIn places signers about (from + size) q s b
+    unfolding signedIn
+    signed-hit size below hit = sym (any-make _ (from + size) (from + i) (omega arith) (sym tested ∙ hit))
+
+    -- it has not, and none before it
+    pub signed-next : signedIn places signers about (from + i) q s b ≡ false → inside && mine ≡ false → signedIn places signers about (from + (i + 1)) q s b ≡ false
+    unfolding signedIn
+    signed-next none miss = rw (← (add-assoc from i 1)) (sym (any-next _ (from + i) false _ (sym none) tested) ∙ miss)
 
 -- one message more of the history
 pub history-next : (votes : List Bool) (signers about : List ℕ) (vote : Bool) (s b m : ℕ) (found mine : Bool)

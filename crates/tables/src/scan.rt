@@ -1,5 +1,6 @@
 // What the columns say of one block or one message: a look at an entry, and walks that look for one.
 ghost use mathlib.Core.Path.{_≡_};
+ghost use mathlib.Core.Bool.{false};
 ghost use Prim.Native.Nat.{_+_, _≤_, _<_, min};
 ghost use lib.Dec.{eqb};
 ghost use lib.ListN.{getD};
@@ -11,7 +12,7 @@ ghost use Rattle.tables.specs.Searches.{messages, signedIn};
 use crate::limits::message_count;
 
 // So many messages are looked at together.
-pub(crate) const CHUNK: usize = 64;
+const CHUNK: usize = 64;
 
 // Office q is there and its bit in the trust word is 1.
 pub fn trusted_at(n: u8, trust: u32, q: u8) -> bool
@@ -134,8 +135,8 @@ pub(crate) fn chunk_about<'a>(about: &'a [u8; 1024], from: usize, b: u8) -> bool
     found
 }
 
-// A message in office q's view, before the chunk that starts at `from` or among the first `size` of that chunk, has that signer and that block;
-// whether one before the chunk has is found already. Signers and places are read only where the chunk has a message about that block at all.
+// A message in office q's view, before the chunk that starts at `from` or among the first `size` of that chunk, has that signer and that block,
+// where none before the chunk has. Signers and places are read only where the chunk has a message about that block at all, up to the first hit.
 fn chunk_signed<'a>(
     places: &'a [u64; 1024],
     signers: &'a [u8; 1024],
@@ -145,22 +146,22 @@ fn chunk_signed<'a>(
     q: u8,
     signer: u8,
     b: u8,
-    found: bool,
 ) -> bool
-    requires { ⌜ (from ≤ 960) × (size ≤ 64) × (found ≡ signedIn (now places) (now signers) (now about) from q signer b) ⌝ }
+    requires { ⌜ (from ≤ 960) × (size ≤ 64) × (signedIn (now places) (now signers) (now about) from q signer b ≡ false) ⌝ }
     ensures { λ r. ⌜ r ≡ signedIn (lent places) (lent signers) (lent about) (from + size) q signer b ⌝ }
 {
     if !chunk_about(about, from, b) {
-        return found;
+        return false;
     }
-    let mut signed = found;
     let mut i = 0;
     while i < size {
         let m = from + i;
-        signed = signed | (words::is_last_stage(places[m], q) & says(signers, about, signer, b, m));
+        if words::is_last_stage(places[m], q) & says(signers, about, signer, b, m) {
+            return true;
+        }
         i += 1;
     }
-    signed
+    false
 }
 
 // How many messages the chunk that starts at `from` has: a whole chunk, or what is left of the count.
@@ -175,7 +176,8 @@ pub(crate) fn chunk_size(from: usize, count: usize) -> usize
     }
 }
 
-// A message in the view of office q, which is trusted, has that signer and that block. The messages are looked at by chunks.
+// A message in the view of office q, which is trusted, has that signer and that block. The messages are looked at by chunks, up to the first
+// hit.
 pub fn is_signed<'a>(
     places: &'a [u64; 1024],
     signers: &'a [u8; 1024],
@@ -188,13 +190,13 @@ pub fn is_signed<'a>(
     ensures { λ r. ⌜ r ≡ signedIn (lent places) (lent signers) (lent about) (min count messages) q signer b ⌝ }
 {
     let sent = message_count(count);
-    let mut found = false;
-    let mut k = 0;
-    while CHUNK * k < sent {
-        let from = CHUNK * k;
+    let mut from = 0;
+    while from < sent {
         let size = chunk_size(from, sent);
-        found = chunk_signed(places, signers, about, from, size, q, signer, b, found);
-        k += 1;
+        if chunk_signed(places, signers, about, from, size, q, signer, b) {
+            return true;
+        }
+        from += size;
     }
-    found
+    false
 }

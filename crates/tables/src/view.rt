@@ -9,7 +9,6 @@ ghost use Rattle.words.specs.Digits.{digit, withMember};
 ghost use Rattle.tables.specs.Messages.{view};
 ghost use Rattle.tables.specs.Searches.{messages, blocks, signersIn, viewIn};
 use crate::limits::message_count;
-use crate::scan::CHUNK;
 use crate::scan::chunk_about;
 use crate::scan::chunk_size;
 
@@ -106,12 +105,11 @@ pub fn signers_of<'a>(
 {
     let sent = message_count(count);
     let mut set = 0;
-    let mut k = 0;
-    while CHUNK * k < sent {
-        let from = CHUNK * k;
+    let mut from = 0;
+    while from < sent {
         let size = chunk_size(from, sent);
         set = chunk_signers(places, signers, about, from, size, q, b, set);
-        k += 1;
+        from += size;
     }
     set
 }

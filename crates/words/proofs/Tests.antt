@@ -109,6 +109,12 @@ module _ (p : ℕ → Bool) where
         | no d ↦ either-left (any n p) (p n) (any-make n k (omega (arith, d)) h)
       ]
 
+  -- a number below n of which the test holds is below any greater limit too
+  pub any-more : (n m : ℕ) → n ≤ m → any n p ≡ true → any m p ≡ true
+  any-more n m few h =
+      let f : (k : ℕ) × (k < n) × (p k ≡ true) = any-at n h in
+      any-make m (f .0) (omega (arith, f .1)) (f .2)
+
   -- where the test holds of no number below n, it fails of each
   pub any-none : (n k : ℕ) → any n p ≡ false → k < n → p k ≡ false
   any-none n k h l = ⊎-elim (λ t. clash (any-make n k l t) h) (λ f. f) (decided (p k))

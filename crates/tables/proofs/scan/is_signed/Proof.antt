@@ -1,43 +1,46 @@
--- `tables::scan::is_signed`: at each turn the first k chunks have been tested.
+-- `tables::scan::is_signed`: at each turn no message before the chunk has that signature.
 use borrow.Author.Needs.{needs}
-use Prim.Native.Nat.{ℕ, _+_, _-_, _*_, _≤_, min}
-use mathlib.Core.Path.{_≡_}
+use Prim.Native.Nat.{_-_, min}
+use mathlib.Core.Path.{_≡_, refl, sym, _∙_}
+use mathlib.Core.Bool.{false}
 use native.Mathlib.Omega.{arith}
 use Rattle.words.specs.Tests.{any}
-use Rattle.tables.specs.Searches.{signedIn}
+use Rattle.words.proofs.Tests.{any-more}
+use Rattle.tables.specs.Searches.{messages, signedIn}
+use Rattle.tables.proofs.Scans.{AtChunk, past-chunk}
 use Rattle.tables.proofs.scan.is_signed.Statement.{statement}
 use Rattle.tables.proofs.scan.is_signed.Tie as tie
 
 abbrev Inv-loop : tie.InvT-loop
-Inv-loop places signers about count q signer b sent found₀ k₀ found k = (k ≤ 16) × (found ≡ signedIn places signers about (min (64 * k) sent) q signer b)
+Inv-loop places signers about count q signer b sent from₀ from = AtChunk from sent × (signedIn places signers about from q signer b ≡ false)
 
 abbrev μ-loop : tie.MeasureT-loop
-μ-loop places signers about count q signer b sent found₀ k₀ found k = 16 - k
+μ-loop places signers about count q signer b sent from₀ from = sent - from
 
 loop-holds : tie.Need-loop-holds Inv-loop μ-loop
 unfolding signedIn any
-loop-holds c =
-    let none : min (64 * 0) (c .message-count .result) ≡ 0 = omega arith in
-    (search needs, rw none)
+loop-holds c = ((search needs, λ _. refl), refl)
 
 chunk-signed-requires : tie.Need-chunk-signed-requires Inv-loop μ-loop
 chunk-signed-requires c κs =
-    let at-loop = c .before .before in
-    let here : min (64 * at-loop .loop .k) (at-loop .before .message-count .result) ≡ 64 * at-loop .loop .k = omega arith in
-    (search needs, search needs, rw here at (at-loop .loop .inv .1))
+    let at-test = c .before in
+    let turn = at-test .before .loop in
+    (omega (arith, turn .inv .0 .1 (at-test .loop-test .taken)), search needs, turn .inv .1)
+
+returns : tie.Need-returns Inv-loop μ-loop
+unfolding signedIn
+returns c = sym (any-more _ _ _ (omega arith) (sym (c .before .chunk-signed .ensures) ∙ c .if1 .taken))
 
 loop-again : tie.Need-loop-again Inv-loop μ-loop
 loop-again c =
-    let at-loop = c .before .before .before in
-    let k : ℕ = at-loop .loop .k in
-    let next : min (64 * (k + 1)) (at-loop .before .message-count .result) ≡ 64 * k + c .before .chunk-size .result = omega arith in
-    (search needs, rw next (c .chunk-signed .ensures))
+    let at-test = c .before .before .before in
+    let next = past-chunk _ _ _ (at-test .before .loop .inv .0) (at-test .loop-test .taken) (c .before .before .chunk-size .ensures) in
+    (next, rw (← (c .before .chunk-signed .ensures)) (c .if1 .left))
 
-returns : tie.Need-returns Inv-loop μ-loop
-returns c =
-    let sent : ℕ = c .before .before .message-count .result in
-    let end : min (64 * c .before .loop .k) sent ≡ sent = omega arith in
-    rw (← (c .before .before .message-count .ensures)) (rw end at (c .before .loop .inv .1))
+returns-2 : tie.Need-returns-2 Inv-loop μ-loop
+returns-2 c =
+    let end : c .before .loop .from ≡ min (c .before .before .before .args .count) messages = omega arith in
+    sym (rw end at (c .before .loop .inv .1))
 
 pub is-signed-spec : {M : Type 1} → statement M
 is-signed-spec =
@@ -47,11 +50,10 @@ is-signed-spec =
     μ-loop
     (λ c κs. search needs)
     loop-holds
-    (λ c. search needs)
-    (λ c. search needs)
     (λ c κs. search needs)
     chunk-signed-requires
+    returns
     (λ c. search needs)
     (λ c. search needs)
     loop-again
-    returns)
+    returns-2)

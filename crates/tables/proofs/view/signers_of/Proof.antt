@@ -1,43 +1,35 @@
--- `tables::view::signers_of`: at each turn the set holds the block's signers by the first k chunks.
+-- `tables::view::signers_of`: at each turn the set holds the block's signers by the messages before the chunk.
 use borrow.Author.Needs.{needs}
-use Prim.Native.Nat.{ℕ, _+_, _-_, _*_, _≤_, min}
-use mathlib.Core.Path.{_≡_}
+use Prim.Native.Nat.{_-_, min}
+use mathlib.Core.Path.{_≡_, refl}
 use native.Mathlib.Omega.{arith}
-use Rattle.tables.specs.Searches.{signersIn}
+use Rattle.tables.specs.Searches.{messages, signersIn}
+use Rattle.tables.proofs.Scans.{AtChunk, past-chunk}
 use Rattle.tables.proofs.Views.{signers-none}
 use Rattle.tables.proofs.view.signers_of.Statement.{statement}
 use Rattle.tables.proofs.view.signers_of.Tie as tie
 
 abbrev Inv-loop : tie.InvT-loop
-Inv-loop places signers about count q b sent set₀ k₀ set k = (k ≤ 16) × (set ≡ signersIn places signers about (min (64 * k) sent) q b)
+Inv-loop places signers about count q b sent set₀ from₀ set from = AtChunk from sent × (set ≡ signersIn places signers about from q b)
 
 abbrev μ-loop : tie.MeasureT-loop
-μ-loop places signers about count q b sent set₀ k₀ set k = 16 - k
-
-loop-holds : tie.Need-loop-holds Inv-loop μ-loop
-loop-holds c =
-    let a = c .before .args in
-    let none : min (64 * 0) (c .message-count .result) ≡ 0 = omega arith in
-    (search needs, rw none (signers-none (a .places .now) (a .signers .now) (a .about .now) (a .q) (a .b)))
+μ-loop places signers about count q b sent set₀ from₀ set from = sent - from
 
 chunk-signers-requires : tie.Need-chunk-signers-requires Inv-loop μ-loop
 chunk-signers-requires c κs =
-    let at-loop = c .before .before in
-    let here : min (64 * at-loop .loop .k) (at-loop .before .message-count .result) ≡ 64 * at-loop .loop .k = omega arith in
-    (search needs, search needs, rw here at (at-loop .loop .inv .1))
+    let at-test = c .before in
+    let turn = at-test .before .loop in
+    (omega (arith, turn .inv .0 .1 (at-test .loop-test .taken)), search needs, turn .inv .1)
 
 loop-again : tie.Need-loop-again Inv-loop μ-loop
 loop-again c =
-    let at-loop = c .before .before .before in
-    let k : ℕ = at-loop .loop .k in
-    let next : min (64 * (k + 1)) (at-loop .before .message-count .result) ≡ 64 * k + c .before .chunk-size .result = omega arith in
-    (search needs, rw next (c .chunk-signers .ensures))
+    let at-test = c .before .before in
+    (past-chunk _ _ _ (at-test .before .loop .inv .0) (at-test .loop-test .taken) (c .before .chunk-size .ensures), c .chunk-signers .ensures)
 
 returns : tie.Need-returns Inv-loop μ-loop
 returns c =
-    let sent : ℕ = c .before .before .message-count .result in
-    let end : min (64 * c .before .loop .k) sent ≡ sent = omega arith in
-    rw (← (c .before .before .message-count .ensures)) (rw end at (c .before .loop .inv .1))
+    let end : c .before .loop .from ≡ min (c .before .before .before .args .count) messages = omega arith in
+    rw end at (c .before .loop .inv .1)
 
 pub signers-of-spec : {M : Type 1} → statement M
 signers-of-spec =
@@ -46,9 +38,7 @@ signers-of-spec =
     Inv-loop
     μ-loop
     (λ c κs. search needs)
-    loop-holds
-    (λ c. search needs)
-    (λ c. search needs)
+    (λ c. ((search needs, λ _. refl), signers-none _ _ _ _ _))
     (λ c κs. search needs)
     chunk-signers-requires
     (λ c. search needs)
