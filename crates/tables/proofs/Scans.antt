@@ -1,17 +1,19 @@
 -- The tests that a walk over the columns makes at each entry, and what a caller knows of its answer.
-use Prim.Native.Nat.{ℕ, zero, suc, _+_, _%_, _≤_, _<_, min}
-use mathlib.Core.Path.{_≡_, sym, _∙_}
+use Prim.Native.Nat.{ℕ, zero, suc, _+_, _-_, _%_, _≤_, _<_, min}
+use mathlib.Core.Path.{_≡_, refl, sym, _∙_}
 use mathlib.Core.Bool.{Bool, true, false, Bool·beq, _&&_, _||_}
 use mathlib.Core.List.{List}
-use mathlib.Core.Logic.{⊎-elim}
+use mathlib.Core.Logic.{⊎-elim, inl, inr}
 use native.Mathlib.Omega.{arith}
 use native.Mathlib.Nat.{add-zero, add-suc, add-assoc}
-use lib.Dec.{eqb}
+use native.Mathlib.Decide.{decLt}
+use borrow.Author.Tests.{le-leb, lt-ltb, ltb-true}
+use lib.Dec.{eqb, ltb}
 use lib.ListN.{getD}
-use Rattle.words.specs.Tests.{both, any}
+use Rattle.words.specs.Tests.{choose, both, any}
 use Rattle.words.specs.Digits.{digit}
-use Rattle.words.proofs.Tests.{and-agree, and-both, any-make, any-next, any-none, both-none, either-none, lowest-is}
-use Rattle.tables.specs.Blocks.{matchesIn, namedIn}
+use Rattle.words.proofs.Tests.{and-agree, and-both, any-make, any-next, any-none, both-left, both-right, both-none, either-none, lowest-is, lowest-only}
+use Rattle.tables.specs.Blocks.{madeIn, epochIn, matchesIn, namedIn}
 use Rattle.tables.specs.Messages.{view, saysIn, historyIn}
 use Rattle.tables.specs.Searches.{signedIn}
 
@@ -60,9 +62,61 @@ unfolding historyIn
 history-next votes signers about vote s b m found mine e em =
     any-next _ m found _ e (and-agree (getD votes m false) vote mine ∙ rw em)
 
--- the block that is named is from 1 up to the next number
-pub named-most : (parents epochs payloads : List ℕ) (last p e w : ℕ)
-    → (1 ≤ namedIn parents epochs payloads last p e w) × (namedIn parents epochs payloads last p e w ≤ last + 1)
-unfolding namedIn
-named-most parents epochs payloads last p e w =
-    ⊎-elim (λ h. (omega arith, omega (arith, h .0))) (λ h. (omega arith, omega (arith, h))) (lowest-is last (λ k. matchesIn parents epochs payloads last p e w (k + 1)))
+module _ (parents epochs payloads : List ℕ) (last p e w : ℕ) where
+  abbrev matches : ℕ → Bool
+  matches = matchesIn parents epochs payloads last p e w
+
+  abbrev named : ℕ
+  named = namedIn parents epochs payloads last p e w
+
+  -- no block below b is the one looked for
+  abbrev pub Unnamed : (b : ℕ) → Type 0
+  Unnamed b = (i : ℕ) → 0 < i → i ≤ last → i < b → matches i ≡ false
+
+  -- a block that has not that epoch or not that payload is not
+  unmatched : (i : ℕ) → 0 < i → i ≤ last → both (eqb (getD epochs i 0) e) (eqb (getD payloads i 0) w) ≡ false → matches i ≡ false
+  unfolding matchesIn epochIn madeIn choose both
+  unmatched i some made none = rw (lt-ltb 0 i some, le-leb i last made, none, both-none)
+
+  module _ (b : ℕ) (below : Unnamed b) where
+    -- past a chunk that has no block of that epoch and payload
+    pub unnamed-past : any 32 (λ i. both (eqb (getD epochs (b + i) 0) e) (eqb (getD payloads (b + i) 0) w)) ≡ false → Unnamed (b + 32)
+    unnamed-past none i some made l =
+        elim (decLt i b) as (λ _. matches i ≡ false) [
+          | yes under ↦ below i some made under
+          | no over ↦
+              let here : b + (i - b) ≡ i = omega arith in
+              unmatched i some made (rw here at (any-none _ 32 (i - b) none (omega arith)))
+        ]
+
+    -- the test of block b, which passes genesis over
+    module _ (t : Bool) (is : t ≡ matches b) where
+      -- past the block where it fails
+      pub unnamed-next : ltb 0 b && t ≡ false → Unnamed (b + 1)
+      unnamed-next miss i some made l =
+          elim (decLt i b) as (λ _. matches i ≡ false) [
+            | yes under ↦ below i some made under
+            | no over ↦
+                let here : b ≡ i = omega arith in
+                sym (rw here at is) ∙ rw (lt-ltb 0 b (omega arith)) at miss
+          ]
+
+      -- where it holds, the block is the one
+      pub named-here : b ≤ last → ltb 0 b && t ≡ true → b ≡ named
+      unfolding namedIn
+      named-here made hit =
+          let both-hold : both (ltb 0 b) t ≡ true = rw and-both at hit in
+          let some : 0 < b = ltb-true 0 b (both-left _ t both-hold) in
+          let here : b - 1 + 1 ≡ b = omega arith in
+          let holds : matches b ≡ true = sym is ∙ both-right (ltb 0 b) t both-hold in
+          rw (lowest-only last (b - 1) (λ k. matches (k + 1)) (λ i l. below (i + 1) (omega arith) (omega arith) (omega arith)) (inl (omega arith, rw here holds))) (sym here)
+
+    -- no block is
+    pub named-new : last < b → last + 1 ≡ named
+    unfolding namedIn
+    named-new past = rw (lowest-only last last (λ k. matches (k + 1)) (λ i l. below (i + 1) (omega arith) (omega arith) (omega arith)) (inr refl))
+
+  -- the block that is named is from 1 up to the next number
+  pub named-most : (1 ≤ named) × (named ≤ last + 1)
+  unfolding namedIn
+  named-most = ⊎-elim (λ h. (omega arith, omega (arith, h .0))) (λ h. (omega arith, omega (arith, h))) (lowest-is last (λ k. matches (k + 1)))

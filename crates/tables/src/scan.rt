@@ -1,18 +1,21 @@
 // What the columns say of one block or one message: a look at an entry, and walks that look for one.
 ghost use mathlib.Core.Path.{_≡_};
-ghost use mathlib.Core.Bool.{false};
-ghost use Prim.Native.Nat.{_+_, _≤_, _<_, min};
+ghost use mathlib.Core.Bool.{false, not};
+ghost use Prim.Native.Nat.{_+_, _%_, _≤_, _<_, min};
 ghost use lib.Dec.{eqb};
 ghost use lib.ListN.{getD};
 ghost use Rattle.words.specs.Lent.{lent};
-ghost use Rattle.words.specs.Tests.{any};
+ghost use Rattle.words.specs.Tests.{both, either, any};
 ghost use Rattle.tables.specs.Blocks.{trustedIn, madeIn, parentIn, epochIn, matchesIn, namedIn};
 ghost use Rattle.tables.specs.Messages.{saysIn, historyIn};
-ghost use Rattle.tables.specs.Searches.{messages, signedIn};
+ghost use Rattle.tables.specs.Searches.{messages, blocks, signedIn};
 use crate::limits::message_count;
 
 // So many messages are looked at together.
 const CHUNK: usize = 64;
+
+// So many blocks.
+const BLOCK_CHUNK: usize = 32;
 
 // Office q is there and its bit in the trust word is 1.
 pub fn trusted_at(n: u8, trust: u32, q: u8) -> bool
@@ -67,7 +70,27 @@ fn is_match<'a>(
     (parent == p) & ((epoch == e) & (payloads[b as usize] == w))
 }
 
-// The lowest block that has parent p, epoch e and payload w; the next number where there is none.
+// One of the 32 blocks from b on may have epoch e and payload w: an entry says so, of a block that is made or not, or b is no multiple of 32.
+// The loop has no branch, so that many entries are compared at once.
+fn may_match<'a>(epochs: &'a [u16; 256], payloads: &'a [u16; 256], b: usize, e: u16, w: u16) -> bool
+    requires { ⌜ b < blocks ⌝ }
+    ensures { λ r. ⌜ r ≡ either (not (eqb (b % 32) 0))
+        (any 32 (λ i. both (eqb (getD (lent epochs) (b + i) 0) e) (eqb (getD (lent payloads) (b + i) 0) w))) ⌝ }
+{
+    if b % BLOCK_CHUNK != 0 {
+        return true;
+    }
+    let mut found = false;
+    let mut i = 0;
+    while i < BLOCK_CHUNK {
+        found = found | ((epochs[b + i] == e) & (payloads[b + i] == w));
+        i += 1;
+    }
+    found
+}
+
+// The lowest block that has parent p, epoch e and payload w; the next number where there is none. Chunks in which no block has that epoch and
+// payload are passed over.
 pub fn name_block<'a>(
     parents: &'a [u8; 256],
     epochs: &'a [u16; 256],
@@ -79,13 +102,16 @@ pub fn name_block<'a>(
 ) -> u16
     ensures { λ r. ⌜ r ≡ namedIn (lent parents) (lent epochs) (lent payloads) last p e w ⌝ }
 {
-    let mut k = 0;
-    while k < last {
-        let b = k + 1;
-        if is_match(parents, epochs, payloads, last, b, p, e, w) {
+    let mut b = 0;
+    while b <= last as usize {
+        if !may_match(epochs, payloads, b, e, w) {
+            b += BLOCK_CHUNK;
+            continue;
+        }
+        if (b > 0) & is_match(parents, epochs, payloads, last, b as u8, p, e, w) {
             return b as u16;
         }
-        k += 1;
+        b += 1;
     }
     (last as u16) + 1
 }
