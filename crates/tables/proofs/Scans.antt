@@ -30,14 +30,24 @@ abbrev pub signs : (places signers about : List ℕ) → (q signer b : ℕ) → 
 signs places signers about q signer b m = both (eqb (digit 4 (getD places m 0) q) view) (saysIn signers about signer b m)
 
 module _ (places signers about : List ℕ) (q s b from : ℕ) where
-  -- where no message of the chunk that starts at `from` is about the block, the chunk's first messages tell nothing new of a signature on it
-  pub signed-past : (size : ℕ) → size ≤ 64 → any 64 (λ i. eqb (getD about (from + i) 0) b) ≡ false
+  -- where no message of the chunk that starts at `from` has a signature, the chunk's first messages tell nothing new of it
+  unsigned-past : ((i : ℕ) → i < 64 → signs places signers about q s b (from + i) ≡ false) → (size : ℕ) → size ≤ 64
       → signedIn places signers about from q s b ≡ signedIn places signers about (from + size) q s b
-  unfolding signedIn saysIn any
-  signed-past zero few none = rw add-zero
-  signed-past (suc size) few none =
-      rw (add-suc, any-none (λ i. eqb (getD about (from + i) 0) b) 64 size none (omega arith), both-none, both-none, either-none)
-      (signed-past size (omega arith) none)
+  unfolding signedIn any
+  unsigned-past none zero few = rw add-zero
+  unsigned-past none (suc size) few = rw (add-suc, none size (omega arith), either-none) (unsigned-past none size (omega arith))
+
+  -- so where none is about the block
+  pub unsaid-past : any 64 (λ i. eqb (getD about (from + i) 0) b) ≡ false → (size : ℕ) → size ≤ 64
+      → signedIn places signers about from q s b ≡ signedIn places signers about (from + size) q s b
+  unfolding saysIn
+  unsaid-past none = unsigned-past (λ i l. rw (any-none (λ i. eqb (getD about (from + i) 0) b) 64 i none l, both-none, both-none))
+
+  -- and where none is in the view
+  pub unseen-past : any 64 (λ i. eqb (digit 4 (getD places (from + i) 0) q) view) ≡ false → (size : ℕ) → size ≤ 64
+      → signedIn places signers about from q s b ≡ signedIn places signers about (from + size) q s b
+  unfolding both
+  unseen-past none = unsigned-past (λ i l. rw (any-none (λ i. eqb (digit 4 (getD places (from + i) 0) q) view) 64 i none l))
 
   -- a message of the chunk, as code tests it
   module _ (i : ℕ) (inside mine : Bool) (ei : inside ≡ eqb (digit 4 (getD places (from + i) 0) q) view) (em : mine ≡ saysIn signers about s b (from + i)) where

@@ -6,8 +6,9 @@ ghost use lib.Dec.{eqb};
 ghost use lib.ListN.{getD};
 ghost use Rattle.words.specs.Lent.{lent};
 ghost use Rattle.words.specs.Tests.{both, either, any};
+ghost use Rattle.words.specs.Digits.{digit};
 ghost use Rattle.tables.specs.Blocks.{trustedIn, madeIn, parentIn, epochIn, matchesIn, namedIn};
-ghost use Rattle.tables.specs.Messages.{saysIn, historyIn};
+ghost use Rattle.tables.specs.Messages.{view, saysIn, historyIn};
 ghost use Rattle.tables.specs.Searches.{messages, blocks, signedIn};
 use crate::limits::message_count;
 
@@ -161,8 +162,23 @@ pub(crate) fn chunk_about<'a>(about: &'a [u8; 1024], from: usize, b: u8) -> bool
     found
 }
 
+// One of the messages of the chunk that starts at `from` is in office q's view, the last stage. This loop has no branch either.
+fn chunk_seen<'a>(places: &'a [u64; 1024], from: usize, q: u8) -> bool
+    requires { ⌜ from ≤ 960 ⌝ }
+    ensures { λ r. ⌜ r ≡ any 64 (λ i. eqb (digit 4 (getD (lent places) (from + i) 0) q) view) ⌝ }
+{
+    let mut found = false;
+    let mut i = 0;
+    while i < CHUNK {
+        found = found | words::is_last_stage(places[from + i], q);
+        i += 1;
+    }
+    found
+}
+
 // A message in office q's view, before the chunk that starts at `from` or among the first `size` of that chunk, has that signer and that block,
-// where none before the chunk has. Signers and places are read only where the chunk has a message about that block at all, up to the first hit.
+// where none before the chunk has. The chunk is looked at message by message, up to the first hit, only where it has a message about that block
+// and one in the view.
 fn chunk_signed<'a>(
     places: &'a [u64; 1024],
     signers: &'a [u8; 1024],
@@ -177,6 +193,9 @@ fn chunk_signed<'a>(
     ensures { λ r. ⌜ r ≡ signedIn (lent places) (lent signers) (lent about) (from + size) q signer b ⌝ }
 {
     if !chunk_about(about, from, b) {
+        return false;
+    }
+    if !chunk_seen(places, from, q) {
         return false;
     }
     let mut i = 0;
