@@ -4,7 +4,6 @@ use mathlib.Core.Path.{_≡_, refl, sym, ap, subst}
 use mathlib.Core.Bool.{Bool, true, false, _&&_, _||_, Bool·beq}
 use mathlib.Core.List.{List, [], _∷_}
 use mathlib.Core.Logic.{_⊎_, inl, inr, ⊎-elim}
-use native.Mathlib.Nat.{add-zero, add-suc}
 use native.Mathlib.Omega.{arith}
 use native.Mathlib.Numerals.{add-one}
 use native.Mathlib.Decide.{ℕ-discrete}
@@ -119,6 +118,12 @@ module _ (p : ℕ → Bool) where
   pub any-none : (n k : ℕ) → any n p ≡ false → k < n → p k ≡ false
   any-none n k h l = ⊎-elim (λ t. clash (any-make n k l t) h) (λ f. f) (decided (p k))
 
+  -- a loop's end: it has tested the numbers below n
+  pub any-end : (i n : ℕ) (so-far : Bool) → i ≤ n → n ≤ i → so-far ≡ any i p → so-far ≡ any n p
+  any-end i n so-far most least h =
+      let end : i ≡ n = omega arith in
+      rw end at h
+
 -- the lowest number is below n and the test holds of it, or it is n
 abbrev pub Lowest : (n : ℕ) → (ℕ → Bool) → ℕ → Type 0
 Lowest n p k = ((k < n) × (p k ≡ true)) ⊎ (k ≡ n)
@@ -190,15 +195,6 @@ pub any-same : (p q : ℕ → Bool) (n : ℕ) → ((k : ℕ) → k < n → p k �
 unfolding any
 any-same p q zero h = refl
 any-same p q (suc n) h = rw (any-same p q n (λ k l. h k (omega arith)), h n (omega arith))
-
-module _ (p : ℕ → Bool) (from : ℕ) where
-  -- none before a part and none in it
-  pub any-neither : (size : ℕ) → any from p ≡ false → any size (λ i. p (from + i)) ≡ false → any (from + size) p ≡ false
-  unfolding any either
-  any-neither zero before part = rw add-zero before
-  any-neither (suc size) before part =
-      let none : any size (λ i. p (from + i)) ≡ false = either-false-left _ (p (from + size)) part in
-      rw (add-suc, any-neither size before none) (either-false-right (any size (λ i. p (from + i))) _ part)
 
 -- what `Lowest` says of a number above 0, said of the number before it
 lowest-back : (n k : ℕ) (p : ℕ → Bool) → Lowest (suc n) p (suc k) → Lowest n (λ i. p (suc i)) k

@@ -15,12 +15,6 @@ split : (c : tie.After-members) → c .members .result + untrusted (c .before .a
 unfolding untrusted
 split c = rw (c .members .ensures) (tally-not (c .before .args .n) (λ q. eqb (digit 2 (c .before .args .trust) q) 1))
 
-sub-result : tie.Need-sub-result
-sub-result c = omega (arith, split c)
-
-returns : tie.Need-returns
-unfolding untrusted
-returns c = omega (arith, split c)
-
 pub count-untrusted-spec : {M : Type 1} → statement M
-count-untrusted-spec = tie.close (tie.spec (λ c κs. search needs) sub-result returns)
+unfolding untrusted
+count-untrusted-spec = tie.close (tie.spec (λ c κs. search needs) (λ c. omega (arith, split c)) (λ c. omega (arith, split c)))

@@ -14,9 +14,6 @@ mul-result-2 c =
     let set : ℕ = c .before .args .set in
     omega (arith, c .members .ensures, tally-not (c .before .args .n) (λ s. eqb (digit 2 set s) 1))
 
-returns : tie.Need-returns
-unfolding enough
-returns c = rw (c .members .ensures)
-
 pub is-enough-spec : {M : Type 1} → statement M
-is-enough-spec = tie.close (tie.spec (λ c. search needs) (λ c κs. search needs) mul-result-2 returns)
+unfolding enough
+is-enough-spec = tie.close (tie.spec (λ c. search needs) (λ c κs. search needs) mul-result-2 (λ c. rw (c .members .ensures)))

@@ -8,18 +8,15 @@ use Rattle.words.proofs.Digits.{fill-digit, fill-whole, pow-within}
 use Rattle.words.proofs.below.Statement.{statement}
 use Rattle.words.proofs.below.Tie as tie
 
-returns : tie.Need-returns
-returns c = sym (fill-whole 2 32 (c .before .args .n) (c .before .args .set) (search needs) (search needs) (search needs))
-
 -- below 32 the power is within the width
 power : (c : tie.After-only-bit) → c .only-bit .result ≡ 2 ^ c .before .before .args .n
 power c = c .only-bit .ensures ∙ pow-within 2 (c .before .before .args .n) 32 (search needs) (search needs)
 
-rem-result : tie.Need-rem-result
-rem-result c = omega (arith, power c, pow-pos (c .before .before .args .n))
-
-returns-2 : tie.Need-returns-2
-returns-2 c = rw (power c) (sym (fill-digit 2 (c .before .before .args .n) (c .before .before .args .set) (search needs)))
-
 pub below-spec : {M : Type 1} → statement M
-below-spec = tie.close (tie.spec returns (λ c κs. search needs) rem-result returns-2)
+below-spec =
+    tie.close
+    (tie.spec
+    (λ c. sym (fill-whole 2 32 (c .before .args .n) (c .before .args .set) (search needs) (search needs) (search needs)))
+    (λ c κs. search needs)
+    (λ c. omega (arith, power c, pow-pos (c .before .before .args .n)))
+    (λ c. rw (power c) (sym (fill-digit 2 (c .before .before .args .n) (c .before .before .args .set) (search needs)))))

@@ -6,8 +6,5 @@ use lib.Dec.{eqb}
 use Rattle.words.proofs.has.Statement.{statement}
 use Rattle.words.proofs.has.Tie as tie
 
-returns : tie.Need-returns
-returns c = ap (λ (d : ℕ). eqb d 1) (c .bit .ensures)
-
 pub has-spec : {M : Type 1} → statement M
-has-spec = tie.close (tie.spec (λ c κs. search needs) returns)
+has-spec = tie.close (tie.spec (λ c κs. search needs) (λ c. ap (λ (d : ℕ). eqb d 1) (c .bit .ensures)))

@@ -10,8 +10,8 @@ use Rattle.words.proofs.is_last_stage.Tie as tie
 returns : tie.Need-returns
 returns c = sym (ap (λ (d : ℕ). eqb d 3) (digit-past 4 (c .before .args .word) 32 (c .before .args .q) (search needs) (search needs)))
 
-returns-2 : tie.Need-returns-2
-returns-2 c = last-digit (c .before .args .word) (c .before .args .q) 32 _ (search needs) refl
-
 pub is-last-stage-spec : {M : Type 1} → statement M
-is-last-stage-spec = tie.close (tie.spec returns (λ c. search needs) (λ c. search needs) (λ c. search needs) returns-2)
+is-last-stage-spec =
+    tie.close
+    (tie.spec returns (λ c. search needs) (λ c. search needs) (λ c. search needs)
+    (λ c. last-digit (c .before .args .word) (c .before .args .q) 32 _ (search needs) refl))

@@ -5,8 +5,5 @@ use Rattle.words.proofs.Digits.{pow-past}
 use Rattle.words.proofs.only_bit.Statement.{statement}
 use Rattle.words.proofs.only_bit.Tie as tie
 
-returns : tie.Need-returns
-returns c = sym (pow-past 2 (c .before .args .q) 32 (search needs))
-
 pub only-bit-spec : {M : Type 1} → statement M
-only-bit-spec = tie.close (tie.spec returns (λ c. search needs) (λ c. search needs))
+only-bit-spec = tie.close (tie.spec (λ c. sym (pow-past 2 (c .before .args .q) 32 (search needs))) (λ c. search needs) (λ c. search needs))

@@ -6,11 +6,8 @@ use Rattle.words.proofs.Digits.{pow-past, four-pow}
 use Rattle.words.proofs.only_stage.Statement.{statement}
 use Rattle.words.proofs.only_stage.Tie as tie
 
-returns : tie.Need-returns
-returns c = sym (pow-past 4 (c .before .args .q) 32 (search needs))
-
-returns-2 : tie.Need-returns-2
-returns-2 c = rw (one-mul, four-pow (c .before .args .q))
-
 pub only-stage-spec : {M : Type 1} → statement M
-only-stage-spec = tie.close (tie.spec returns (λ c. search needs) (λ c. search needs) (λ c. search needs) returns-2)
+only-stage-spec =
+    tie.close
+    (tie.spec (λ c. sym (pow-past 4 (c .before .args .q) 32 (search needs))) (λ c. search needs) (λ c. search needs) (λ c. search needs)
+    (λ c. rw (one-mul, four-pow (c .before .args .q))))

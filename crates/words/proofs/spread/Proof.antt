@@ -14,10 +14,6 @@ Inv-loop set n limit word₀ q₀ word q = (q ≤ limit) × (word ≡ fill 4 q (
 abbrev μ-loop : tie.MeasureT-loop
 μ-loop set n limit word₀ q₀ word q = limit - q
 
-loop-holds : tie.Need-loop-holds Inv-loop μ-loop
-unfolding fill
-loop-holds c = (search needs, refl)
-
 -- what the loop's step makes of the word
 abbrev sum : tie.After-only-stage Inv-loop μ-loop → ℕ
 sum c = c .before .before .before .loop .word + c .before .bit .result * c .only-stage .result
@@ -31,15 +27,6 @@ step c =
     (λ k. omega (arith, digit-lt 2 set k (search needs))) (omega arith)
     (c .before .before .before .loop .inv .1) (c .before .bit .ensures) (c .only-stage .ensures)
 
-mul-word : tie.Need-mul-word Inv-loop μ-loop
-mul-word c = omega (arith, step c)
-
-add-word : tie.Need-add-word Inv-loop μ-loop
-add-word c = omega (arith, step c)
-
-loop-again : tie.Need-loop-again Inv-loop μ-loop
-loop-again c = (search needs, step c .0)
-
 returns : tie.Need-returns Inv-loop μ-loop
 returns c =
     let set : ℕ = c .before .before .before .args .set in
@@ -48,19 +35,9 @@ returns c =
     c .before .loop .inv .1 ∙ rw all (fill-min 4 32 n (digit 2 set) (λ q h. digit-past 2 set 32 q (search needs) h))
 
 pub spread-spec : {M : Type 1} → statement M
+unfolding fill
 spread-spec =
     tie.close
-    (tie.spec
-    Inv-loop
-    μ-loop
-    (λ c κs. search needs)
-    loop-holds
-    (λ c κs. search needs)
-    (λ c. search needs)
-    (λ c κs. search needs)
-    mul-word
-    add-word
-    (λ c. search needs)
-    (λ c. search needs)
-    loop-again
-    returns)
+    (tie.spec Inv-loop μ-loop (λ c κs. search needs) (λ c. (search needs, refl)) (λ c κs. search needs) (λ c. search needs)
+    (λ c κs. search needs) (λ c. omega (arith, step c)) (λ c. omega (arith, step c)) (λ c. search needs) (λ c. search needs)
+    (λ c. (search needs, step c .0)) returns)

@@ -6,12 +6,10 @@ use Rattle.words.proofs.Digits.{digit-past, four-pow}
 use Rattle.words.proofs.stage.Statement.{statement}
 use Rattle.words.proofs.stage.Tie as tie
 
-returns : tie.Need-returns
-returns c = sym (digit-past 4 (c .before .args .word) 32 (c .before .args .q) (search needs) (search needs))
-
-returns-2 : tie.Need-returns-2
-unfolding digit
-returns-2 c = rw (four-pow (c .before .args .q))
-
 pub stage-spec : {M : Type 1} → statement M
-stage-spec = tie.close (tie.spec returns (λ c. search needs) (λ c. search needs) (λ c. search needs) (λ c. search needs) returns-2)
+unfolding digit
+stage-spec =
+    tie.close
+    (tie.spec
+    (λ c. sym (digit-past 4 (c .before .args .word) 32 (c .before .args .q) (search needs) (search needs)))
+    (λ c. search needs) (λ c. search needs) (λ c. search needs) (λ c. search needs) (λ c. rw (four-pow (c .before .args .q))))

@@ -8,13 +8,10 @@ use Rattle.tables.proofs.Searching.{everyone-enough}
 use Rattle.tables.proofs.chain.is_certified_in.Statement.{statement}
 use Rattle.tables.proofs.chain.is_certified_in.Tie as tie
 
-is-certified-requires : tie.Need-is-certified-requires
-is-certified-requires c κs = everyone-enough _ (c .before .pre)
-
 returns : tie.Need-returns
 unfolding certifiedIn certifiedBy
 returns c =
     c .is-certified .ensures ∙ rw (c .before .signers-of .ensures, view-entry _ _ _ _ _ (c .before .before .args .b) (omega arith))
 
 pub is-certified-in-spec : {M : Type 1} → statement M
-is-certified-in-spec = tie.close (tie.spec (λ c κs. search needs) is-certified-requires returns)
+is-certified-in-spec = tie.close (tie.spec (λ c κs. search needs) (λ c κs. everyone-enough _ (c .before .pre)) returns)

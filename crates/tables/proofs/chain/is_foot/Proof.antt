@@ -4,8 +4,5 @@ use Rattle.words.proofs.Tests.{or-either}
 use Rattle.tables.proofs.chain.is_foot.Statement.{statement}
 use Rattle.tables.proofs.chain.is_foot.Tie as tie
 
-returns : tie.Need-returns
-returns c = or-either (eqb (c .args .at) 0) (eqb (c .args .at) (c .args .base))
-
 pub is-foot-spec : {M : Type 1} → statement M
-is-foot-spec = tie.close (tie.spec returns)
+is-foot-spec = tie.close (tie.spec (λ c. or-either (eqb (c .args .at) 0) (eqb (c .args .at) (c .args .base))))

@@ -20,9 +20,6 @@ returns-2 c =
     (c .before .before .rank-of .ensures) (omega arith)
     (none-outranks _ _ _ _ few (c .before .before .rank-of .result) (c .if2 .taken)))
 
-is-outranked-requires : tie.Need-is-outranked-requires
-is-outranked-requires c κs = (search needs, omega arith, c .before .before .rank-of .ensures)
-
 returns-3 : tie.Need-returns-3
 returns-3 c =
     rw (← (c .before .before .before .before .office-count .ensures)) (ranked-longest _ _ _ _ _ _ (c .before .before .before .rank-of .result) _
@@ -31,11 +28,6 @@ returns-3 c =
 pub is-longest-spec : {M : Type 1} → statement M
 is-longest-spec =
     tie.close
-    (tie.spec
-    (λ c κs. search needs)
-    (λ c κs. search needs)
-    returns
-    returns-2
-    (λ c. search needs)
-    is-outranked-requires
+    (tie.spec (λ c κs. search needs) (λ c κs. search needs) returns returns-2 (λ c. search needs)
+    (λ c κs. (search needs, omega arith, c .before .before .rank-of .ensures))
     returns-3)

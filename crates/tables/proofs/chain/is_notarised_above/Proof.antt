@@ -32,9 +32,6 @@ unended : (c : tie.Else1 Inv-loop μ-loop)
     → either (eqb (c .before .before .before .loop .at) 0) (eqb (c .before .before .before .loop .at) (c .before .before .before .before .before .args .base)) ≡ false
 unended c = sym (c .before .is-foot .ensures) ∙ c .if1 .left
 
-is-certified-in-requires : tie.Need-is-certified-in-requires Inv-loop μ-loop
-is-certified-in-requires c κs = omega (arith, c .before .before .before .before .office-count .ensures)
-
 returns-2 : tie.Need-returns-2 Inv-loop μ-loop
 returns-2 c =
     let a = c .before .before .before .before .before .before .before .args in
@@ -53,9 +50,6 @@ loop-again c =
     (unended (c .before .before .before)) _ (c .before .before .is-certified-in .ensures) (not-false _ (c .before .if2 .left)) in
     (omega arith, rw (c .parent-at .ensures) (c .before .before .before .before .before .before .loop .inv .1 ∙ next))
 
-rank-of-requires : tie.Need-rank-of-requires Inv-loop μ-loop
-rank-of-requires c κs = omega (arith, c .before .before .before .before .office-count .ensures)
-
 returns-3 : tie.Need-returns-3 Inv-loop μ-loop
 returns-3 c =
     rw (← (c .before .before .before .before .before .office-count .ensures), c .rank-of .ensures, c .before .before .view-of .ensures)
@@ -64,19 +58,8 @@ returns-3 c =
 pub is-notarised-above-spec : {M : Type 1} → statement M
 is-notarised-above-spec =
     tie.close
-    (tie.spec
-    Inv-loop
-    μ-loop
-    (λ c κs. search needs)
-    (λ c. (search needs, refl))
-    (λ c κs. search needs)
-    returns
-    is-certified-in-requires
-    returns-2
-    (λ c κs. search needs)
-    (λ c. search needs)
-    (λ c. search needs)
-    loop-again
-    (λ c κs. search needs)
-    rank-of-requires
+    (tie.spec Inv-loop μ-loop (λ c κs. search needs) (λ c. (search needs, refl)) (λ c κs. search needs) returns
+    (λ c κs. omega (arith, c .before .before .before .before .office-count .ensures))
+    returns-2 (λ c κs. search needs) (λ c. search needs) (λ c. search needs) loop-again (λ c κs. search needs)
+    (λ c κs. omega (arith, c .before .before .before .before .office-count .ensures))
     returns-3)

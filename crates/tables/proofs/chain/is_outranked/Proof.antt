@@ -100,9 +100,6 @@ unended : (c : tie.Else1 Inv-climb μ-climb Inv-walk μ-walk) → either (eqb (c
 unfolding either
 unended c = rw (ne-eqb (c .before .climb .at) 0 (omega (arith, above c)))
 
-is-certified-requires : tie.Need-is-certified-requires Inv-climb μ-climb Inv-walk μ-walk
-is-certified-requires c κs = c .before .before .climb .inv .2
-
 -- where the block reached is not certified, the block that the climb started from has rank 0
 unclimbed : (c : tie.After-is-certified Inv-climb μ-climb Inv-walk μ-walk) → c .is-certified .result ≡ false
     → let at-climb = c .before .before .before in
@@ -127,12 +124,6 @@ walk-again-2 c =
       climb-end _ _ _ _ x _ 0 (turn .inv .3) 0 (omega arith) none,
       below-more _ x (c .before .before .before .before .before .before .walk .inv .4) (le-ltb (a .beat) rank (omega (arith, none))),
     )
-
-add-climbed : tie.Need-add-climbed Inv-climb μ-climb Inv-walk μ-walk
-add-climbed c = omega (arith, above (c .before .before .before))
-
-climb-less : tie.Need-climb-less Inv-climb μ-climb Inv-walk μ-walk
-climb-less c = rw (c .parent-at .ensures) (parent-in-lt _ _ _ (above (c .before .before .before .before)))
 
 climb-again : tie.Need-climb-again Inv-climb μ-climb Inv-walk μ-walk
 unfolding certifiedIn certifiedBy
@@ -171,46 +162,12 @@ returns-2 c =
 pub is-outranked-spec : {M : Type 1} → statement M
 is-outranked-spec =
     tie.close
-    (tie.spec
-    Inv-climb
-    μ-climb
-    Inv-walk
-    μ-walk
-    (λ c. search needs)
-    (λ c. search needs)
-    (λ c. search needs)
-    (λ c. search needs)
-    (λ c. search needs)
-    (λ c. search needs)
-    walk-holds
-    (λ c. search needs)
-    climb-holds
-    (λ c. search needs)
-    (λ c. search needs)
-    (λ c. search needs)
-    (λ c. search needs)
+    (tie.spec Inv-climb μ-climb Inv-walk μ-walk (λ c. search needs) (λ c. search needs) (λ c. search needs) (λ c. search needs)
+    (λ c. search needs) (λ c. search needs) walk-holds (λ c. search needs) climb-holds (λ c. search needs) (λ c. search needs)
+    (λ c. search needs) (λ c. search needs) (λ c κs. search needs) joined-rank-requires (λ c. search needs) (λ c. search needs)
+    (λ c. search needs) (λ c. search needs) walk-again (λ c. search needs) (λ c. search needs) (λ c. search needs)
+    (λ c κs. c .before .before .climb .inv .2) (λ c. search needs) (λ c. search needs) (λ c. search needs) walk-again-2
+    (λ c. omega (arith, above (c .before .before .before))) (λ c. search needs) (λ c. search needs) (λ c. search needs) (λ c. search needs)
     (λ c κs. search needs)
-    joined-rank-requires
-    (λ c. search needs)
-    (λ c. search needs)
-    (λ c. search needs)
-    (λ c. search needs)
-    walk-again
-    (λ c. search needs)
-    (λ c. search needs)
-    (λ c. search needs)
-    is-certified-requires
-    (λ c. search needs)
-    (λ c. search needs)
-    (λ c. search needs)
-    walk-again-2
-    add-climbed
-    (λ c. search needs)
-    (λ c. search needs)
-    (λ c. search needs)
-    (λ c. search needs)
-    (λ c κs. search needs)
-    climb-less
-    climb-again
-    returns
-    returns-2)
+    (λ c. rw (c .parent-at .ensures) (parent-in-lt _ _ _ (above (c .before .before .before .before))))
+    climb-again returns returns-2)

@@ -18,9 +18,6 @@ Inv-loop parents last b climbed₀ at₀ climbed at =
 abbrev μ-loop : tie.MeasureT-loop
 μ-loop parents last b climbed₀ at₀ climbed at = at
 
-loop-less : tie.Need-loop-less Inv-loop μ-loop
-loop-less c = rw (c .parent-at .ensures) (parent-in-lt _ _ _ (c .before .loop-test .taken))
-
 loop-again : tie.Need-loop-again Inv-loop μ-loop
 loop-again c =
     let a = c .before .before .before .args in
@@ -37,12 +34,6 @@ returns c =
 pub length-of-spec : {M : Type 1} → statement M
 length-of-spec =
     tie.close
-    (tie.spec
-    Inv-loop
-    μ-loop
-    (λ c. (search needs, omega arith))
-    (λ c. search needs)
-    (λ c κs. search needs)
-    loop-less
-    loop-again
-    returns)
+    (tie.spec Inv-loop μ-loop (λ c. (search needs, omega arith)) (λ c. search needs) (λ c κs. search needs)
+    (λ c. rw (c .parent-at .ensures) (parent-in-lt _ _ _ (c .before .loop-test .taken)))
+    loop-again returns)

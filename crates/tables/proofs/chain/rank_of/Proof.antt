@@ -33,9 +33,6 @@ unended c = sym (c .before .is-foot .ensures) ∙ not-true _ (c .if1 .taken)
 above : (c : tie.Then1 Inv-loop μ-loop) → 0 < c .before .before .loop .at
 above c = unmet-above (c .before .before .loop .at) _ (unended c)
 
-is-certified-requires : tie.Need-is-certified-requires Inv-loop μ-loop
-is-certified-requires c κs = c .before .before .before .loop .inv .2
-
 returns : tie.Need-returns Inv-loop μ-loop
 unfolding certifiedIn certifiedBy
 returns c =
@@ -43,9 +40,6 @@ returns c =
     let a = c .before .before .before .before .before .before .args in
     sym (c .before .before .before .before .before .loop .inv .1 ∙ stop-rank (a .view .now) (a .parents .now) (a .epochs .now) (a .last) (a .n) (a .base) _
     (unended at-if1) _ (c .before .is-certified .ensures) _ (not-true _ (c .if2 .taken)))
-
-loop-less : tie.Need-loop-less Inv-loop μ-loop
-loop-less c = rw (c .parent-at .ensures) (parent-in-lt _ _ _ (above (c .before .before .before .before)))
 
 loop-again : tie.Need-loop-again Inv-loop μ-loop
 unfolding certifiedIn certifiedBy
@@ -71,19 +65,9 @@ returns-2 c =
 pub rank-of-spec : {M : Type 1} → statement M
 rank-of-spec =
     tie.close
-    (tie.spec
-    Inv-loop
-    μ-loop
+    (tie.spec Inv-loop μ-loop
     (λ c. (search needs, raised-start _, everyone-enough _ (c .pre)))
-    (λ c κs. search needs)
-    (λ c. search needs)
-    (λ c. search needs)
-    (λ c. search needs)
-    is-certified-requires
-    returns
-    (λ c. search needs)
-    (λ c κs. search needs)
-    loop-less
-    loop-again
-    (λ c. search needs)
-    returns-2)
+    (λ c κs. search needs) (λ c. search needs) (λ c. search needs) (λ c. search needs) (λ c κs. c .before .before .before .loop .inv .2)
+    returns (λ c. search needs) (λ c κs. search needs)
+    (λ c. rw (c .parent-at .ensures) (parent-in-lt _ _ _ (above (c .before .before .before .before))))
+    loop-again (λ c. search needs) returns-2)

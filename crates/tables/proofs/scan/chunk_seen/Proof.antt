@@ -2,12 +2,11 @@
 use borrow.Author.Needs.{needs}
 use Prim.Native.Nat.{_+_, _-_, _≤_}
 use mathlib.Core.Path.{_≡_, refl}
-use native.Mathlib.Omega.{arith}
 use lib.Dec.{eqb}
 use lib.ListN.{getD}
 use Rattle.words.specs.Tests.{any}
 use Rattle.words.specs.Digits.{digit}
-use Rattle.words.proofs.Tests.{any-next}
+use Rattle.words.proofs.Tests.{any-next, any-end}
 use Rattle.tables.specs.Messages.{view}
 use Rattle.tables.proofs.scan.chunk_seen.Statement.{statement}
 use Rattle.tables.proofs.scan.chunk_seen.Tie as tie
@@ -18,19 +17,10 @@ Inv-loop places from q found₀ i₀ found i = (i ≤ 64) × (found ≡ any i (�
 abbrev μ-loop : tie.MeasureT-loop
 μ-loop places from q found₀ i₀ found i = 64 - i
 
-loop-holds : tie.Need-loop-holds Inv-loop μ-loop
-unfolding any
-loop-holds c = (search needs, refl)
-
-loop-again : tie.Need-loop-again Inv-loop μ-loop
-loop-again c = (search needs, any-next _ _ _ _ (c .before .before .before .loop .inv .1) (c .is-last-stage .ensures))
-
-returns : tie.Need-returns Inv-loop μ-loop
-returns c =
-    let end : c .before .loop .i ≡ 64 = omega arith in
-    rw end at (c .before .loop .inv .1)
-
 pub chunk-seen-spec : {M : Type 1} → statement M
 chunk-seen-spec =
     tie.close
-    (tie.spec Inv-loop μ-loop loop-holds (λ c. search needs) (λ c. search needs) (λ c. search needs) (λ c κs. search needs) (λ c. search needs) (λ c. search needs) loop-again returns)
+    (tie.spec Inv-loop μ-loop (λ c. (search needs, unfold any in refl)) (λ c. search needs) (λ c. search needs) (λ c. search needs)
+    (λ c κs. search needs) (λ c. search needs) (λ c. search needs)
+    (λ c. (search needs, any-next _ _ _ _ (c .before .before .before .loop .inv .1) (c .is-last-stage .ensures)))
+    (λ c. any-end _ _ _ _ (c .before .loop .inv .0) (c .loop-test .left) (c .before .loop .inv .1)))

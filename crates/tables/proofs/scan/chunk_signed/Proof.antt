@@ -27,9 +27,6 @@ returns-2 c =
     let start = c .before .before .before .before in
     sym (start .pre .2) ∙ unseen-past _ _ _ _ _ _ _ (sym (c .before .chunk-seen .ensures) ∙ not-true _ (c .if2 .taken)) _ (start .pre .1)
 
-loop-holds : tie.Need-loop-holds Inv-loop μ-loop
-loop-holds c = (search needs, rw add-zero (c .before .before .before .before .pre .2))
-
 returns-3 : tie.Need-returns-3 Inv-loop μ-loop
 returns-3 c =
     signed-hit _ _ _ _ _ _ _ _ _ _ (c .before .before .is-last-stage .ensures) (c .before .says .ensures) _ (c .before .before .before .before .loop-test .taken) (c .if3 .taken)
@@ -47,21 +44,7 @@ returns-4 c =
 pub chunk-signed-spec : {M : Type 1} → statement M
 chunk-signed-spec =
     tie.close
-    (tie.spec
-    Inv-loop
-    μ-loop
-    (λ c κs. search needs)
-    returns
-    (λ c κs. search needs)
-    returns-2
-    loop-holds
-    (λ c. search needs)
-    (λ c. search needs)
-    (λ c. search needs)
-    (λ c κs. search needs)
-    (λ c κs. search needs)
-    returns-3
-    (λ c. search needs)
-    (λ c. search needs)
-    loop-again
-    returns-4)
+    (tie.spec Inv-loop μ-loop (λ c κs. search needs) returns (λ c κs. search needs) returns-2
+    (λ c. (search needs, rw add-zero (c .before .before .before .before .pre .2)))
+    (λ c. search needs) (λ c. search needs) (λ c. search needs) (λ c κs. search needs) (λ c κs. search needs) returns-3 (λ c. search needs)
+    (λ c. search needs) loop-again returns-4)

@@ -5,14 +5,10 @@ use Rattle.tables.specs.Blocks.{epochIn}
 use Rattle.tables.proofs.scan.epoch_at.Statement.{statement}
 use Rattle.tables.proofs.scan.epoch_at.Tie as tie
 
-returns : tie.Need-returns
-unfolding epochIn choose
-returns c = rw (← (c .before .before .is-made .ensures), c .before .if1 .taken)
-
-returns-2 : tie.Need-returns-2
-unfolding epochIn choose
-returns-2 c = rw (← (c .before .is-made .ensures), c .if1 .left)
-
 pub epoch-at-spec : {M : Type 1} → statement M
+unfolding epochIn choose
 epoch-at-spec =
-    tie.close (tie.spec (λ c κs. search needs) (λ c. search needs) (λ c. search needs) returns returns-2)
+    tie.close
+    (tie.spec (λ c κs. search needs) (λ c. search needs) (λ c. search needs)
+    (λ c. rw (← (c .before .before .is-made .ensures), c .before .if1 .taken))
+    (λ c. rw (← (c .before .is-made .ensures), c .if1 .left)))

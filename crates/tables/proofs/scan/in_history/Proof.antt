@@ -15,10 +15,6 @@ Inv-loop votes signers about count vote signer b sent found₀ m₀ found m = (m
 abbrev μ-loop : tie.MeasureT-loop
 μ-loop votes signers about count vote signer b sent found₀ m₀ found m = sent - m
 
-loop-holds : tie.Need-loop-holds Inv-loop μ-loop
-unfolding historyIn any
-loop-holds c = (search needs, refl)
-
 loop-again : tie.Need-loop-again Inv-loop μ-loop
 loop-again c =
     let a = c .before .before .before .before .before .args in
@@ -30,16 +26,8 @@ returns c =
     rw end at (c .before .loop .inv .1)
 
 pub in-history-spec : {M : Type 1} → statement M
+unfolding historyIn any
 in-history-spec =
     tie.close
-    (tie.spec
-    Inv-loop
-    μ-loop
-    (λ c κs. search needs)
-    loop-holds
-    (λ c. search needs)
-    (λ c κs. search needs)
-    (λ c. search needs)
-    (λ c. search needs)
-    loop-again
-    returns)
+    (tie.spec Inv-loop μ-loop (λ c κs. search needs) (λ c. (search needs, refl)) (λ c. search needs) (λ c κs. search needs)
+    (λ c. search needs) (λ c. search needs) loop-again returns)

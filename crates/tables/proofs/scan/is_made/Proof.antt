@@ -4,9 +4,6 @@ use Rattle.tables.specs.Blocks.{madeIn}
 use Rattle.tables.proofs.scan.is_made.Statement.{statement}
 use Rattle.tables.proofs.scan.is_made.Tie as tie
 
-returns : tie.Need-returns
-unfolding madeIn
-returns c = and-both _ _
-
 pub is-made-spec : {M : Type 1} → statement M
-is-made-spec = tie.close (tie.spec returns)
+unfolding madeIn
+is-made-spec = tie.close (tie.spec (λ c. and-both _ _))

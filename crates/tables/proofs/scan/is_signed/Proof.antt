@@ -17,19 +17,11 @@ Inv-loop places signers about count q signer b sent from₀ from = AtChunk from 
 abbrev μ-loop : tie.MeasureT-loop
 μ-loop places signers about count q signer b sent from₀ from = sent - from
 
-loop-holds : tie.Need-loop-holds Inv-loop μ-loop
-unfolding signedIn any
-loop-holds c = ((search needs, λ _. refl), refl)
-
 chunk-signed-requires : tie.Need-chunk-signed-requires Inv-loop μ-loop
 chunk-signed-requires c κs =
     let at-test = c .before in
     let turn = at-test .before .loop in
     (omega (arith, turn .inv .0 .1 (at-test .loop-test .taken)), search needs, turn .inv .1)
-
-returns : tie.Need-returns Inv-loop μ-loop
-unfolding signedIn
-returns c = sym (any-more _ _ _ (omega arith) (sym (c .before .chunk-signed .ensures) ∙ c .if1 .taken))
 
 loop-again : tie.Need-loop-again Inv-loop μ-loop
 loop-again c =
@@ -43,17 +35,9 @@ returns-2 c =
     sym (rw end at (c .before .loop .inv .1))
 
 pub is-signed-spec : {M : Type 1} → statement M
+unfolding signedIn
 is-signed-spec =
     tie.close
-    (tie.spec
-    Inv-loop
-    μ-loop
-    (λ c κs. search needs)
-    loop-holds
-    (λ c κs. search needs)
-    chunk-signed-requires
-    returns
-    (λ c. search needs)
-    (λ c. search needs)
-    loop-again
-    returns-2)
+    (tie.spec Inv-loop μ-loop (λ c κs. search needs) (λ c. ((search needs, λ _. refl), unfold any in refl)) (λ c κs. search needs) chunk-signed-requires
+    (λ c. sym (any-more _ _ _ (omega arith) (sym (c .before .chunk-signed .ensures) ∙ c .if1 .taken)))
+    (λ c. search needs) (λ c. search needs) loop-again returns-2)

@@ -28,26 +28,10 @@ loop-again-2 : tie.Need-loop-again-2 Inv-loop μ-loop
 loop-again-2 c =
     unnamed-next _ _ _ _ _ _ _ _ (c .before .before .before .before .before .loop .inv) _ (c .before .is-match .ensures) (c .if2 .left)
 
-returns-2 : tie.Need-returns-2 Inv-loop μ-loop
-returns-2 c = named-new _ _ _ _ _ _ _ _ (c .before .loop .inv) (c .loop-test .left)
-
 pub name-block-spec : {M : Type 1} → statement M
 name-block-spec =
     tie.close
-    (tie.spec
-    Inv-loop
-    μ-loop
-    (λ c i some made none. absurd (omega arith))
-    (λ c κs. search needs)
+    (tie.spec Inv-loop μ-loop (λ c i some made none. absurd (omega arith)) (λ c κs. search needs) (λ c. search needs) (λ c. search needs)
+    loop-again (λ c. search needs) (λ c κs. search needs) (λ c. search needs) returns (λ c. search needs) (λ c. search needs) loop-again-2
     (λ c. search needs)
-    (λ c. search needs)
-    loop-again
-    (λ c. search needs)
-    (λ c κs. search needs)
-    (λ c. search needs)
-    returns
-    (λ c. search needs)
-    (λ c. search needs)
-    loop-again-2
-    (λ c. search needs)
-    returns-2)
+    (λ c. named-new _ _ _ _ _ _ _ _ (c .before .loop .inv) (c .loop-test .left)))

@@ -6,13 +6,10 @@ use Rattle.tables.specs.Blocks.{parentIn}
 use Rattle.tables.proofs.scan.parent_at.Statement.{statement}
 use Rattle.tables.proofs.scan.parent_at.Tie as tie
 
-returns : tie.Need-returns
-unfolding parentIn choose
-returns c = rw (← (c .before .is-made .ensures), ← and-both, c .if1 .taken)
-
-returns-2 : tie.Need-returns-2
-unfolding parentIn choose
-returns-2 c = rw (← (c .before .is-made .ensures), ← and-both, c .if1 .left)
-
 pub parent-at-spec : {M : Type 1} → statement M
-parent-at-spec = tie.close (tie.spec (λ c. search needs) (λ c κs. search needs) returns returns-2)
+unfolding parentIn choose
+parent-at-spec =
+    tie.close
+    (tie.spec (λ c. search needs) (λ c κs. search needs)
+    (λ c. rw (← (c .before .is-made .ensures), ← and-both, c .if1 .taken))
+    (λ c. rw (← (c .before .is-made .ensures), ← and-both, c .if1 .left)))

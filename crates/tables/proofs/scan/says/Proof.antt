@@ -5,9 +5,6 @@ use Rattle.tables.specs.Messages.{saysIn}
 use Rattle.tables.proofs.scan.says.Statement.{statement}
 use Rattle.tables.proofs.scan.says.Tie as tie
 
-returns : tie.Need-returns
-unfolding saysIn
-returns c = and-both _ _
-
 pub says-spec : {M : Type 1} → statement M
-says-spec = tie.close (tie.spec (λ c. search needs) (λ c. search needs) returns)
+unfolding saysIn
+says-spec = tie.close (tie.spec (λ c. search needs) (λ c. search needs) (λ c. and-both _ _))

@@ -5,9 +5,6 @@ use Rattle.tables.specs.Blocks.{trustedIn}
 use Rattle.tables.proofs.scan.trusted_at.Statement.{statement}
 use Rattle.tables.proofs.scan.trusted_at.Tie as tie
 
-returns : tie.Need-returns
-unfolding trustedIn
-returns c = rw (c .has .ensures) (and-both _ _)
-
 pub trusted-at-spec : {M : Type 1} → statement M
-trusted-at-spec = tie.close (tie.spec (λ c κs. search needs) returns)
+unfolding trustedIn
+trusted-at-spec = tie.close (tie.spec (λ c κs. search needs) (λ c. rw (c .has .ensures) (and-both _ _)))

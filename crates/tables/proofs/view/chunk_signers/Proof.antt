@@ -24,9 +24,6 @@ returns c =
     signers-past (a .places .now) (a .signers .now) (a .about .now) (a .q) (a .b) (a .from) (a .size) (a .set) (start .pre .1)
     (start .pre .2) (sym (c .before .chunk-about .ensures) ∙ not-true _ (c .if1 .taken))
 
-loop-holds : tie.Need-loop-holds Inv-loop μ-loop
-loop-holds c = (search needs, rw add-zero (c .before .before .pre .2))
-
 loop-again : tie.Need-loop-again Inv-loop μ-loop
 loop-again c =
     let at-loop = c .before .before .before .before .before in
@@ -45,19 +42,6 @@ returns-2 c =
 pub chunk-signers-spec : {M : Type 1} → statement M
 chunk-signers-spec =
     tie.close
-    (tie.spec
-    Inv-loop
-    μ-loop
-    (λ c κs. search needs)
-    returns
-    loop-holds
-    (λ c. search needs)
-    (λ c. search needs)
-    (λ c. search needs)
-    (λ c. search needs)
-    (λ c. search needs)
-    (λ c κs. search needs)
-    (λ c. search needs)
-    (λ c. search needs)
-    loop-again
-    returns-2)
+    (tie.spec Inv-loop μ-loop (λ c κs. search needs) returns (λ c. (search needs, rw add-zero (c .before .before .pre .2)))
+    (λ c. search needs) (λ c. search needs) (λ c. search needs) (λ c. search needs) (λ c. search needs) (λ c κs. search needs)
+    (λ c. search needs) (λ c. search needs) loop-again returns-2)

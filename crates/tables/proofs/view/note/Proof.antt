@@ -9,19 +9,10 @@ returns : tie.Need-returns
 unfolding choose
 returns c = (rw (sym (c .before .before .before .is-last-stage .ensures) ∙ c .before .before .if1 .taken, c .with-member .ensures), search needs)
 
-returns-2 : tie.Need-returns-2
-unfolding choose
-returns-2 c = (rw (sym (c .before .is-last-stage .ensures) ∙ c .if1 .left), search needs)
-
 pub note-spec : {M : Type 1} → statement M
+unfolding choose
 note-spec =
     tie.close
-    (tie.spec
-    (λ c κs. search needs)
-    (λ c. search needs)
-    (λ c. search needs)
-    (λ c κs. search needs)
-    (λ c. search needs)
-    (λ c. search needs)
+    (tie.spec (λ c κs. search needs) (λ c. search needs) (λ c. search needs) (λ c κs. search needs) (λ c. search needs) (λ c. search needs)
     returns
-    returns-2)
+    (λ c. (rw (sym (c .before .is-last-stage .ensures) ∙ c .if1 .left), search needs)))

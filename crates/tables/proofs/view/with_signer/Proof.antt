@@ -8,14 +8,6 @@ use Rattle.tables.specs.Searches.{setOf}
 use Rattle.tables.proofs.view.with_signer.Statement.{statement}
 use Rattle.tables.proofs.view.with_signer.Tie as tie
 
-returns : tie.Need-returns
-unfolding choose both
-returns c = rw (ne-eqb _ _ (c .if1 .taken))
-
-returns-2 : tie.Need-returns-2
-unfolding choose
-returns-2 c = rw (sym (c .before .is-last-stage .ensures) ∙ not-true _ (c .if2 .taken), both-none)
-
 returns-3 : tie.Need-returns-3
 unfolding choose both setOf
 returns-3 c =
@@ -25,5 +17,9 @@ returns-3 c =
     (c .with-member .ensures)
 
 pub with-signer-spec : {M : Type 1} → statement M
+unfolding choose both
 with-signer-spec =
-    tie.close (tie.spec returns (λ c κs. search needs) returns-2 (λ c κs. search needs) returns-3)
+    tie.close
+    (tie.spec (λ c. rw (ne-eqb _ _ (c .if1 .taken))) (λ c κs. search needs)
+    (λ c. rw (sym (c .before .is-last-stage .ensures) ∙ not-true _ (c .if2 .taken), both-none))
+    (λ c κs. search needs) returns-3)
