@@ -8,7 +8,7 @@ use native.Mathlib.Nat.{add-mul-div-right, add-mul-mod-self-right, div-eq-of-lt,
 use native.Mathlib.Decide.{ℕ-discrete, decLt, decLe, le-ind}
 use native.Mathlib.Numerals.{add-one}
 use native.Mathlib.Omega.{arith}
-use borrow.Author.Tests.{eq-eqb, ne-eqb}
+use borrow.Author.Tests.{eq-eqb, ne-eqb, eqb-true}
 use lib.Arith.{digits-lt, digits-div, mod-mul}
 use lib.Bits.{bitAnd, bitOr, and-high, or-lt, or-mod, or-shr, or-zero-l}
 use lib.Count.{ones, onesIn, ones-cat}
@@ -17,6 +17,7 @@ use lib.Pow.{pow-add}
 use Rattle.words.specs.Digits.{digit, fill, withMember, withStage}
 use Rattle.words.specs.Sums.{tally, weigh, unit}
 use Rattle.words.specs.Tests.{choose, either}
+use Rattle.words.proofs.Tests.{both-ways}
 
 -- a digit is below the base
 pub digit-lt : (b w q : ℕ) → 0 < b → digit b w q < b
@@ -102,10 +103,8 @@ pow-past b q n h =
 -- two multiples are equal where the numbers are
 eqb-mul : (d e p : ℕ) → 0 < p → eqb (d * p) (e * p) ≡ eqb d e
 eqb-mul d e p pos =
-    elim (ℕ-discrete d e) as (λ _. eqb (d * p) (e * p) ≡ eqb d e) [
-      | yes same ↦ rw (same, eq-eqb (e * p) (e * p) refl, eq-eqb e e refl)
-      | no other ↦ rw (ne-eqb d e other) (ne-eqb (d * p) (e * p) (λ same. other (eq-of-mul-eq-mul-right p pos d e same)))
-    ]
+    both-ways _ _ (λ h. eq-eqb d e (eq-of-mul-eq-mul-right p pos d e (eqb-true (d * p) (e * p) h)))
+    (λ h. eq-eqb (d * p) (e * p) (ap (λ (x : ℕ). x * p) (eqb-true d e h)))
 
 -- a digit of base 4 takes two of base 2
 pub four-pow : (q : ℕ) → 4 ^ q ≡ 2 ^ (2 * q)
@@ -117,18 +116,16 @@ four-pow (suc q) =
 -- digits that are 0 from m up fill nothing there
 pub fill-min : (b m n : ℕ) (f : ℕ → ℕ) → ((q : ℕ) → m ≤ q → f q ≡ 0) → fill b (min n m) f ≡ fill b n f
 unfolding fill
-fill-min b m n f none = go (decLe n m)
-  where
-    more : (k : ℕ) → m ≤ k → fill b m f ≡ fill b k f → fill b m f ≡ fill b (suc k) f
-    more k h e = e ∙ rw (none k h, zero-mul, add-zero)
-
-    go : Dec (n ≤ m) → fill b (min n m) f ≡ fill b n f
-    go (yes h) =
-        let e : min n m ≡ n = omega arith in
-        rw e
-    go (no h) =
-        let e : min n m ≡ m = omega arith in
-        rw e (le-ind (λ (k : ℕ). fill b m f ≡ fill b k f) refl more n (omega arith))
+fill-min b m n f none =
+    elim (decLe n m) as (λ _. fill b (min n m) f ≡ fill b n f) [
+      | yes h ↦
+          let all : min n m ≡ n = omega arith in
+          rw all
+      | no h ↦
+          let few : min n m ≡ m = omega arith in
+          let more : (k : ℕ) → m ≤ k → fill b m f ≡ fill b k f → fill b m f ≡ fill b (suc k) f = λ k l e. e ∙ rw (none k l, zero-mul, add-zero) in
+          rw few (le-ind (λ (k : ℕ). fill b m f ≡ fill b k f) refl more n (omega arith))
+    ]
 
 -- a word of m places is filled by its own digits
 pub fill-whole : (b m n w : ℕ) → 0 < b → w < b ^ m → m ≤ n → fill b n (digit b w) ≡ w
@@ -173,6 +170,12 @@ fill-add b (suc n) d f q h =
     (λ (l : q < n). rw (← fill-add b n d f q l, ne-eqb n q (λ x. omega arith)) (omega arith))
     (eq-or-lt-of-le within)
 
+-- what is chosen of two numbers is below a limit that both are below
+choose-lt : (t : Bool) (x y b : ℕ) → x < b → y < b → choose t x y < b
+unfolding choose
+choose-lt true x y b l h = l
+choose-lt false x y b l h = h
+
 -- a word in which the digit at a place is left out, with another put in there
 put-in : (b n d : ℕ) (f : ℕ → ℕ) (q : ℕ) → q < n
     → fill b n (λ k. choose (eqb k q) 0 (f k)) + d * b ^ q ≡ fill b n (λ k. choose (eqb k q) d (f k))
@@ -196,15 +199,11 @@ digit-put b n w q d small h fit =
     ∙ fill-ext b n _ (digit b w) (λ k l. own k (ℕ-discrete k q))
     ∙ fill-whole b n n w (omega arith) fit (omega arith) in
     let now : rest + d * b ^ q ≡ fill b n (λ k. choose (eqb k q) d (digit b w k)) = put-in b n d (digit b w) q h in
-    record { taken = omega arith; fits = omega (arith, fill-lt b n _ (λ k. low (eqb k q) k)); is = omega arith }
+    record { taken = omega arith; fits = omega (arith, fill-lt b n _ (λ k. choose-lt (eqb k q) d (digit b w k) b small (digit-lt b w k (omega arith)))); is = omega arith }
   where
     own : (k : ℕ) → Dec (k ≡ q) → choose (eqb k q) (digit b w q) (digit b w k) ≡ digit b w k
     own k (yes e) = unfold choose in rw (eq-eqb k q e, e)
     own k (no o) = unfold choose in rw (ne-eqb k q o)
-
-    low : (t : Bool) (k : ℕ) → choose t d (digit b w k) < b
-    low true k = unfold choose in small
-    low false k = unfold choose in digit-lt b w k (omega arith)
 
 -- the same of a stage, as code has it: the power of the place modulo the width, and the old digit
 pub record Staged (w q s old power : ℕ) : Type 0 where
@@ -222,23 +221,14 @@ staged w q s old power h fit o p =
 -- a digit of the word with another stage for one office
 pub stage-put : (w q s k : ℕ) → k < 32 → digit 4 (withStage w q s) k ≡ choose (eqb k q) (s % 4) (digit 4 w k)
 unfolding withStage
-stage-put w q s k h = digit-fill 4 32 (λ x. choose (eqb x q) (s % 4) (digit 4 w x)) (λ x. by (eqb x q) x) k h
-  where
-    by : (t : Bool) (x : ℕ) → choose t (s % 4) (digit 4 w x) < 4
-    by true x = unfold choose in mod-lt s (omega arith)
-    by false x = unfold choose in digit-lt 4 w x (omega arith)
+stage-put w q s k h =
+    digit-fill 4 32 _ (λ x. choose-lt (eqb x q) (s % 4) (digit 4 w x) 4 (mod-lt s (omega arith)) (digit-lt 4 w x (omega arith))) k h
 
 -- a digit of base 2 is 1 exactly where the test that it was put in for holds
 bit-chosen : (t : Bool) → eqb (choose t 1 0) 1 ≡ t
 unfolding choose
 bit-chosen true = refl
 bit-chosen false = refl
-
--- such a digit is below 2
-chosen-lt : (t : Bool) → choose t 1 0 < 2
-unfolding choose
-chosen-lt true = omega arith
-chosen-lt false = omega arith
 
 -- a digit of base 2, put in again
 chosen-bit : (d : ℕ) → d < 2 → choose (eqb d 1) 1 0 ≡ d
@@ -249,7 +239,7 @@ chosen-bit (suc (suc d)) h = absurd (omega arith)
 
 -- the set of the numbers below n of which a test holds has just these
 pub bit-set : (n : ℕ) (p : ℕ → Bool) (q : ℕ) → q < n → eqb (digit 2 (fill 2 n (λ k. choose (p k) 1 0)) q) 1 ≡ p q
-bit-set n p q h = rw (digit-fill 2 n (λ k. choose (p k) 1 0) (λ k. chosen-lt (p k)) q h) (bit-chosen (p q))
+bit-set n p q h = rw (digit-fill 2 n (λ k. choose (p k) 1 0) (λ k. choose-lt (p k) 1 0 2 (omega arith) (omega arith)) q h) (bit-chosen (p q))
 
 -- who is in a set with one more member
 pub member-put : (w q k : ℕ) → k < 32 → eqb (digit 2 (withMember w q) k) 1 ≡ either (eqb (digit 2 w k) 1) (eqb q k)
@@ -276,11 +266,7 @@ pow-fill b n q h = rw (fill-none, one-mul, zero-add) at (fill-add b n 1 (λ k. 0
 
 -- whether two numbers are equal does not depend on their order
 eqb-swap : (a b : ℕ) → eqb a b ≡ eqb b a
-eqb-swap a b =
-    elim (ℕ-discrete a b) as (λ _. eqb a b ≡ eqb b a) [
-      | yes e ↦ eq-eqb a b e ∙ sym (eq-eqb b a (sym e))
-      | no d ↦ ne-eqb a b d ∙ sym (ne-eqb b a (λ e. d (sym e)))
-    ]
+eqb-swap a b = both-ways _ _ (λ h. eq-eqb b a (sym (eqb-true a b h))) (λ h. eq-eqb a b (sym (eqb-true b a h)))
 
 -- the only number in the set of a power is its place, where that is below n
 bit-only : (n q k : ℕ) → k < n → eqb (digit 2 (2 ^ q % 2 ^ n) k) 1 ≡ eqb q k

@@ -270,7 +270,7 @@ unfolding between
 between-make low high k h = both-make _ _ (le-leb low k (h .0)) (le-leb k high (h .1))
 
 -- tests that hold of each other
-both-ways : (a b : Bool) → (a ≡ true → b ≡ true) → (b ≡ true → a ≡ true) → a ≡ b
+pub both-ways : (a b : Bool) → (a ≡ true → b ≡ true) → (b ≡ true → a ≡ true) → a ≡ b
 both-ways true b h k = sym (h refl)
 both-ways false true h k = k refl
 both-ways false false h k = refl
