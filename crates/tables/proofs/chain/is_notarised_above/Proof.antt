@@ -27,6 +27,10 @@ returns c =
     let foot = foot-certified _ _ _ _ _ _ _ (sym (c .before .is-foot .ensures) ∙ c .if1 .taken) in
     rw (← (turn .before .office-count .ensures)) (sym (turn .loop .inv .1 ∙ foot))
 
+-- the view, by what the function was lent
+abbrev seen : tie.Start Inv-loop μ-loop → List ℕ
+seen s = viewIn (s .args .places .now) (s .args .signers .now) (s .args .about .now) (min (s .args .count) messages) (s .args .q)
+
 -- what the test of a turn tells: the block reached is not the foot
 unended : (c : tie.Else1 Inv-loop μ-loop)
     → either (eqb (c .before .before .before .loop .at) 0) (eqb (c .before .before .before .loop .at) (c .before .before .before .before .before .args .base)) ≡ false
@@ -34,21 +38,19 @@ unended c = sym (c .before .is-foot .ensures) ∙ c .if1 .left
 
 returns-2 : tie.Need-returns-2 Inv-loop μ-loop
 returns-2 c =
-    let a = c .before .before .before .before .before .before .before .args in
-    let stop = stop-certified (viewIn (a .places .now) (a .signers .now) (a .about .now) (min (a .count) messages) (a .q)) (a .parents .now)
-    (a .epochs .now) (a .last) (c .before .before .before .before .before .before .office-count .result) (a .base)
-    (c .before .before .before .before .before .loop .at)
-    (unended (c .before .before)) _ (c .before .is-certified-in .ensures) (not-true _ (c .if2 .taken)) in
-    rw (← (c .before .before .before .before .before .before .office-count .ensures)) (sym (c .before .before .before .before .before .loop .inv .1 ∙ stop))
+    let at-loop = c .before .before .before .before .before in
+    let start = at-loop .before .before in
+    let stop = stop-certified (seen start) (start .args .parents .now) (start .args .epochs .now) _ _ _ _ (unended (c .before .before)) _
+    (c .before .is-certified-in .ensures) (not-true _ (c .if2 .taken)) in
+    rw (← (at-loop .before .office-count .ensures)) (sym (at-loop .loop .inv .1 ∙ stop))
 
 loop-again : tie.Need-loop-again Inv-loop μ-loop
 loop-again c =
-    let a = c .before .before .before .before .before .before .before .before .args in
-    let next = next-certified (viewIn (a .places .now) (a .signers .now) (a .about .now) (min (a .count) messages) (a .q)) (a .parents .now)
-    (a .epochs .now) (a .last) (c .before .before .before .before .before .before .before .office-count .result) (a .base)
-    (c .before .before .before .before .before .before .loop .at)
-    (unended (c .before .before .before)) _ (c .before .before .is-certified-in .ensures) (not-false _ (c .before .if2 .left)) in
-    (omega arith, rw (c .parent-at .ensures) (c .before .before .before .before .before .before .loop .inv .1 ∙ next))
+    let at-loop = c .before .before .before .before .before .before in
+    let start = at-loop .before .before in
+    let next = next-certified (seen start) (start .args .parents .now) (start .args .epochs .now) _ _ _ _ (unended (c .before .before .before)) _
+    (c .before .before .is-certified-in .ensures) (not-false _ (c .before .if2 .left)) in
+    (omega arith, rw (c .parent-at .ensures) (at-loop .loop .inv .1 ∙ next))
 
 returns-3 : tie.Need-returns-3 Inv-loop μ-loop
 returns-3 c =

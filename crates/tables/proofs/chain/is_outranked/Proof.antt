@@ -65,14 +65,13 @@ climb-holds c =
 joined-rank-requires : tie.Need-joined-rank-requires Inv-climb μ-climb Inv-walk μ-walk
 joined-rank-requires c κs = rw (c .kept-rank .ensures) (kept-most _ _ _ _ _ _ 0 (c .before .before .before .climb .inv .3) (c .before .before .if1 .taken))
 
--- what a climb that comes to a block passed before tells: the rank of the block that it started from
-abbrev Joined : (c : tie.After-joined-rank Inv-climb μ-climb Inv-walk μ-walk) → Type 0
-Joined c =
-    let at-walk = c .before .before .before .before .before .before in
-    let a = at-walk .before .args in
-    c .joined-rank .result ≡ Rank (a .view .now) (a .parents .now) (a .epochs .now) (a .last) (a .n) (at-walk .walk .x + 1)
+-- the rank of each block, by what the function was lent
+abbrev rank : tie.Start Inv-climb μ-climb Inv-walk μ-walk → ℕ → ℕ
+rank s = Rank (s .args .view .now) (s .args .parents .now) (s .args .epochs .now) (s .args .last) (s .args .n)
 
-joined : (c : tie.After-joined-rank Inv-climb μ-climb Inv-walk μ-walk) → Joined c
+-- what a climb that comes to a block passed before tells: the rank of the block that it started from
+joined : (c : tie.After-joined-rank Inv-climb μ-climb Inv-walk μ-walk) → let at-walk = c .before .before .before .before .before .before in
+    c .joined-rank .result ≡ rank (at-walk .before) (at-walk .walk .x + 1)
 joined c =
     let at-if1 = c .before .before .before in
     let turn = at-if1 .before .climb in
@@ -80,16 +79,15 @@ joined c =
 
 walk-again : tie.Need-walk-again Inv-climb μ-climb Inv-walk μ-walk
 walk-again c =
-    let a = c .before .before .before .before .before .before .before .before .args in
+    let at-walk = c .before .before .before .before .before .before .before in
     let turn = c .before .before .before .before .before .climb in
-    let x : ℕ = c .before .before .before .before .before .before .before .walk .x + 1 in
-    let rank : ℕ = Rank (a .view .now) (a .parents .now) (a .epochs .now) (a .last) (a .n) x in
-    let met : c .before .joined-rank .result ≡ rank = joined (c .before) in (
-      omega (arith, c .before .before .before .before .before .before .before .walk .inv .0),
+    let x : ℕ = at-walk .walk .x + 1 in
+    let met : c .before .joined-rank .result ≡ rank (at-walk .before) x = joined (c .before) in (
+      omega (arith, at-walk .walk .inv .0),
       turn .inv .1,
       turn .inv .2,
       climb-end _ _ _ _ x _ 0 (turn .inv .3) _ (omega arith) met,
-      below-more _ x (c .before .before .before .before .before .before .before .walk .inv .4) (le-ltb (a .beat) rank (omega (arith, met, c .if2 .left))),
+      below-more _ x (at-walk .walk .inv .4) (le-ltb _ (rank (at-walk .before) x) (omega (arith, met, c .if2 .left))),
     )
 
 -- a block that was not passed is above genesis
@@ -101,28 +99,22 @@ unfolding either
 unended c = rw (ne-eqb (c .before .climb .at) 0 (omega (arith, above c)))
 
 -- where the block reached is not certified, the block that the climb started from has rank 0
-unclimbed : (c : tie.After-is-certified Inv-climb μ-climb Inv-walk μ-walk) → c .is-certified .result ≡ false
-    → let at-climb = c .before .before .before in
-    let a = at-climb .before .before .before .args in
-    raised (at-climb .climb .climbed) (Rank (a .view .now) (a .parents .now) (a .epochs .now) (a .last) (a .n) (at-climb .climb .at)) ≡ 0
-unfolding certifiedIn certifiedBy
-unclimbed c fails =
-    let at-if1 = c .before .before in
-    let a = at-if1 .before .before .before .before .args in
-    stop-rank (a .view .now) (a .parents .now) (a .epochs .now) (a .last) (a .n) 0 (at-if1 .before .climb .at) (unended at-if1) _ (c .is-certified .ensures) _ fails
-
 walk-again-2 : tie.Need-walk-again-2 Inv-climb μ-climb Inv-walk μ-walk
+unfolding certifiedIn certifiedBy
 walk-again-2 c =
-    let a = c .before .before .before .before .before .before .before .args in
-    let turn = c .before .before .before .before .climb in
-    let x : ℕ = c .before .before .before .before .before .before .walk .x + 1 in
-    let rank : ℕ = Rank (a .view .now) (a .parents .now) (a .epochs .now) (a .last) (a .n) x in
-    let none : 0 ≡ rank = sym (turn .inv .4 ∙ unclimbed (c .before) (not-true _ (c .if3 .taken))) in (
-      omega (arith, c .before .before .before .before .before .before .walk .inv .0),
+    let at-if1 = c .before .before .before in
+    let at-walk = at-if1 .before .before .before in
+    let a = at-walk .before .args in
+    let turn = at-if1 .before .climb in
+    let x : ℕ = at-walk .walk .x + 1 in
+    let stop = stop-rank (a .view .now) (a .parents .now) (a .epochs .now) (a .last) (a .n) 0 (turn .at) (unended at-if1) _
+    (c .before .is-certified .ensures) _ (not-true _ (c .if3 .taken)) in
+    let none : 0 ≡ rank (at-walk .before) x = sym (turn .inv .4 ∙ stop) in (
+      omega (arith, at-walk .walk .inv .0),
       turn .inv .1,
       turn .inv .2,
       climb-end _ _ _ _ x _ 0 (turn .inv .3) 0 (omega arith) none,
-      below-more _ x (c .before .before .before .before .before .before .walk .inv .4) (le-ltb (a .beat) rank (omega (arith, none))),
+      below-more _ x (at-walk .walk .inv .4) (le-ltb _ (rank (at-walk .before) x) (omega (arith, none))),
     )
 
 climb-again : tie.Need-climb-again Inv-climb μ-climb Inv-walk μ-walk
@@ -153,11 +145,9 @@ returns c =
 returns-2 : tie.Need-returns-2 Inv-climb μ-climb Inv-walk μ-walk
 unfolding outranked
 returns-2 c =
-    let a = c .before .before .before .before .before .before .before .before .args in
-    let x : ℕ = c .before .before .before .before .before .before .before .walk .x + 1 in
-    let rank : ℕ = Rank (a .view .now) (a .parents .now) (a .epochs .now) (a .last) (a .n) x in
-    sym (any-make (λ x. ltb (a .beat) (Rank (a .view .now) (a .parents .now) (a .epochs .now) (a .last) (a .n) x)) (a .last + 1) x (omega arith)
-    (lt-ltb (a .beat) rank (omega (arith, joined (c .before)))))
+    let at-walk = c .before .before .before .before .before .before .before in
+    let x : ℕ = at-walk .walk .x + 1 in
+    sym (any-make _ _ x (omega arith) (lt-ltb _ (rank (at-walk .before) x) (omega (arith, joined (c .before)))))
 
 pub is-outranked-spec : {M : Type 1} → statement M
 is-outranked-spec =
