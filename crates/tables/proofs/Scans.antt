@@ -21,7 +21,7 @@ use Rattle.tables.specs.Searches.{signedIn}
 abbrev pub AtChunk : (from sent : ℕ) → Type 0
 AtChunk from sent = (from ≤ sent) × (from < sent → from % 64 ≡ 0)
 
--- and so it has past that chunk
+-- past that chunk it has come to such a place again
 pub past-chunk : (from sent size : ℕ) → AtChunk from sent → from < sent → from + size ≡ min (from + 64) sent → AtChunk (from + size) sent
 past-chunk from sent size here more e = (omega arith, λ left. omega (arith, here .1 more))
 
@@ -49,17 +49,18 @@ module _ (places signers about : List ℕ) (q s b from : ℕ) where
   unfolding both
   unseen-past none = unsigned-past (λ i l. rw (any-none (λ i. eqb (digit 4 (getD places (from + i) 0) q) view) 64 i none l))
 
-  -- a message of the chunk, as code tests it
+  -- a message of the chunk, by what code asks of it: whether it is in the view, and whether it has that signer and that block
   module _ (i : ℕ) (inside mine : Bool) (ei : inside ≡ eqb (digit 4 (getD places (from + i) 0) q) view) (em : mine ≡ saysIn signers about s b (from + i)) where
+    -- the two answers together tell whether it has that signature
     tested : inside && mine ≡ signs places signers about q s b (from + i)
     tested = and-both inside mine ∙ rw (ei, em)
 
-    -- it has that signature
+    -- where it has, some message of the chunk's first has
     pub signed-hit : (size : ℕ) → i < size → inside && mine ≡ true → true ≡ signedIn places signers about (from + size) q s b
     unfolding signedIn
     signed-hit size below hit = sym (any-make _ (from + size) (from + i) (omega arith) (sym tested ∙ hit))
 
-    -- it has not, and none before it
+    -- where it has not, and none before it, none up to it has
     pub signed-next : signedIn places signers about (from + i) q s b ≡ false → inside && mine ≡ false → signedIn places signers about (from + (i + 1)) q s b ≡ false
     unfolding signedIn
     signed-next none miss = rw (← (add-assoc from i 1)) (sym (any-next _ (from + i) false _ (sym none) tested) ∙ miss)
@@ -73,9 +74,11 @@ history-next votes signers about vote s b m found mine e em =
     any-next _ m found _ e (and-agree (getD votes m false) vote mine ∙ rw em)
 
 module _ (parents epochs payloads : List ℕ) (last p e w : ℕ) where
+  -- a block has the parent, epoch and payload looked for
   abbrev matches : ℕ → Bool
   matches = matchesIn parents epochs payloads last p e w
 
+  -- the block that is named
   abbrev named : ℕ
   named = namedIn parents epochs payloads last p e w
 
