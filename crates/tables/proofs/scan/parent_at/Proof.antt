@@ -10,6 +10,6 @@ pub parent-at-spec : {M : Type 1} → statement M
 unfolding parentIn choose
 parent-at-spec =
     tie.close
-    (tie.spec (λ c. search needs) (λ c κs. search needs)
+    (tie.spec (search needs) (search needs)
     (λ c. rw (← (c .before .is-made .ensures), ← and-both, c .if1 .taken))
     (λ c. rw (← (c .before .is-made .ensures), ← and-both, c .if1 .left)))
