@@ -17,4 +17,4 @@ split c = rw (c .members .ensures) (tally-not (c .before .args .n) (λ q. eqb (d
 
 pub count-untrusted-spec : {M : Type 1} → statement M
 unfolding untrusted
-count-untrusted-spec = tie.close (tie.spec (search needs) (λ c. omega (arith, split c)) (λ c. omega (arith, split c)))
+count-untrusted-spec = tie.close (tie.spec (λ c κs. search needs) (λ c. omega (arith, split c)) (λ c. omega (arith, split c)))

@@ -16,4 +16,4 @@ mul-result-2 c =
 
 pub is-enough-spec : {M : Type 1} → statement M
 unfolding enough
-is-enough-spec = tie.close (tie.spec (search needs) (search needs) mul-result-2 (λ c. rw (c .members .ensures)))
+is-enough-spec = tie.close (tie.spec (λ c. search needs) (λ c κs. search needs) mul-result-2 (λ c. rw (c .members .ensures)))

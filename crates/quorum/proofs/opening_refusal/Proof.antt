@@ -25,6 +25,6 @@ pub opening-refusal-spec : {M : Type 1} → statement M
 unfolding openingRefusal
 opening-refusal-spec =
     tie.close
-    (tie.spec (search needs) (λ c. search turns depth 9) (search needs) (λ c. search turns depth 9) (search needs)
-    (λ c. search turns depth 9) (search needs) mul-if4 (λ c. let same = third (c .before) in search turns depth 9)
+    (tie.spec (λ c κs. search needs) (λ c. search turns depth 9) (λ c κs. search needs) (λ c. search turns depth 9) (λ c κs. search needs)
+    (λ c. search turns depth 9) (λ c κs. search needs) mul-if4 (λ c. let same = third (c .before) in search turns depth 9)
     (λ c. let same = third (c .before) in search turns depth 9))

@@ -17,6 +17,6 @@ below-spec =
     tie.close
     (tie.spec
     (λ c. sym (fill-whole 2 32 (c .before .args .n) (c .before .args .set) (search needs) (search needs) (search needs)))
-    (search needs)
+    (λ c κs. search needs)
     (λ c. omega (arith, power c, pow-pos (c .before .before .args .n)))
     (λ c. rw (power c) (sym (fill-digit 2 (c .before .before .args .n) (c .before .before .args .set) (search needs)))))

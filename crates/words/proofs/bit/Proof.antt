@@ -12,4 +12,4 @@ bit-spec =
     tie.close
     (tie.spec
     (λ c. sym (digit-past 2 (c .before .args .set) 32 (c .before .args .q) (search needs) (search needs)))
-    (search needs) (λ c. refl))
+    (λ c. search needs) (λ c. refl))

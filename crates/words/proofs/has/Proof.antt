@@ -7,4 +7,4 @@ use Rattle.words.proofs.has.Statement.{statement}
 use Rattle.words.proofs.has.Tie as tie
 
 pub has-spec : {M : Type 1} → statement M
-has-spec = tie.close (tie.spec (search needs) (λ c. ap (λ (d : ℕ). eqb d 1) (c .bit .ensures)))
+has-spec = tie.close (tie.spec (λ c κs. search needs) (λ c. ap (λ (d : ℕ). eqb d 1) (c .bit .ensures)))

@@ -13,5 +13,5 @@ returns c = sym (ap (λ (d : ℕ). eqb d 3) (digit-past 4 (c .before .args .word
 pub is-last-stage-spec : {M : Type 1} → statement M
 is-last-stage-spec =
     tie.close
-    (tie.spec returns (search needs) (search needs) (search needs)
+    (tie.spec returns (λ c. search needs) (λ c. search needs) (λ c. search needs)
     (λ c. last-digit (c .before .args .word) (c .before .args .q) 32 _ (search needs) refl))

@@ -14,4 +14,4 @@ returns c =
     ap ones (c .below .ensures) ∙ ones-fill (c .before .args .n) (digit 2 set) (λ q. digit-lt 2 set q (search needs))
 
 pub members-spec : {M : Type 1} → statement M
-members-spec = tie.close (tie.spec (search needs) returns)
+members-spec = tie.close (tie.spec (λ c κs. search needs) returns)

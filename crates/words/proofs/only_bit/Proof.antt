@@ -6,4 +6,4 @@ use Rattle.words.proofs.only_bit.Statement.{statement}
 use Rattle.words.proofs.only_bit.Tie as tie
 
 pub only-bit-spec : {M : Type 1} → statement M
-only-bit-spec = tie.close (tie.spec (λ c. sym (pow-past 2 (c .before .args .q) 32 (search needs))) (search needs) (search needs))
+only-bit-spec = tie.close (tie.spec (λ c. sym (pow-past 2 (c .before .args .q) 32 (search needs))) (λ c. search needs) (λ c. search needs))

@@ -9,5 +9,5 @@ use Rattle.words.proofs.only_stage.Tie as tie
 pub only-stage-spec : {M : Type 1} → statement M
 only-stage-spec =
     tie.close
-    (tie.spec (λ c. sym (pow-past 4 (c .before .args .q) 32 (search needs))) (search needs) (search needs) (search needs)
+    (tie.spec (λ c. sym (pow-past 4 (c .before .args .q) 32 (search needs))) (λ c. search needs) (λ c. search needs) (λ c. search needs)
     (λ c. rw (one-mul, four-pow (c .before .args .q))))

@@ -38,6 +38,6 @@ pub spread-spec : {M : Type 1} → statement M
 unfolding fill
 spread-spec =
     tie.close
-    (tie.spec Inv-loop μ-loop (search needs) (λ c. (search needs, refl)) (search needs) (search needs)
-    (search needs) (λ c. omega (arith, step c)) (λ c. omega (arith, step c)) (search needs) (search needs)
+    (tie.spec Inv-loop μ-loop (λ c κs. search needs) (λ c. (search needs, refl)) (λ c κs. search needs) (λ c. search needs)
+    (λ c κs. search needs) (λ c. omega (arith, step c)) (λ c. omega (arith, step c)) (λ c. search needs) (λ c. search needs)
     (λ c. (search needs, step c .0)) returns)

@@ -12,4 +12,4 @@ stage-spec =
     tie.close
     (tie.spec
     (λ c. sym (digit-past 4 (c .before .args .word) 32 (c .before .args .q) (search needs) (search needs)))
-    (search needs) (search needs) (search needs) (search needs) (λ c. rw (four-pow (c .before .args .q))))
+    (λ c. search needs) (λ c. search needs) (λ c. search needs) (λ c. search needs) (λ c. rw (four-pow (c .before .args .q))))

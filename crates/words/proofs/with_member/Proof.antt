@@ -9,5 +9,5 @@ pub with-member-spec : {M : Type 1} → statement M
 unfolding withMember
 with-member-spec =
     tie.close
-    (tie.spec (search needs)
+    (tie.spec (λ c κs. search needs)
     (λ c. rw (c .only-bit .ensures) (set-with 32 _ _ (c .before .fits .set .fits))))

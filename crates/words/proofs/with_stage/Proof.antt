@@ -24,6 +24,6 @@ put c = staged _ _ _ _ _ (search needs) (search needs) (c .stage .ensures) (c .b
 pub with-stage-spec : {M : Type 1} → statement M
 with-stage-spec =
     tie.close
-    (tie.spec returns (search needs) (search needs) (search needs) (λ c. omega (arith, put c .taken))
-    (λ c. omega (arith, put c .taken)) (search needs) (λ c. omega (arith, put c .fits)) (λ c. omega (arith, put c .fits))
+    (tie.spec returns (λ c κs. search needs) (λ c κs. search needs) (λ c. search needs) (λ c. omega (arith, put c .taken))
+    (λ c. omega (arith, put c .taken)) (λ c. search needs) (λ c. omega (arith, put c .fits)) (λ c. omega (arith, put c .fits))
     (λ c. put c .is))

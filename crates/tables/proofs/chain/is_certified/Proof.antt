@@ -27,7 +27,7 @@ pub is-certified-spec : {M : Type 1} → statement M
 unfolding both
 is-certified-spec =
     tie.close
-    (tie.spec (search needs) (search needs) (search needs)
+    (tie.spec (λ c κs. search needs) (λ c κs. search needs) (λ c κs. search needs)
     (λ c. rw (tests (c .before), le-ltb _ _ (c .if1 .taken)))
-    returns-2 (search needs)
+    returns-2 (λ c κs. search needs)
     (λ c. rw (tests (c .before .before .before), lt-ltb _ _ (c .before .before .if1 .left)) (c .is-enough .ensures)))

@@ -14,4 +14,4 @@ returns c =
     c .is-certified .ensures ∙ rw (c .before .signers-of .ensures, view-entry _ _ _ _ _ (c .before .before .args .b) (omega arith))
 
 pub is-certified-in-spec : {M : Type 1} → statement M
-is-certified-in-spec = tie.close (tie.spec (search needs) (λ c κs. everyone-enough _ (c .before .pre)) returns)
+is-certified-in-spec = tie.close (tie.spec (λ c κs. search needs) (λ c κs. everyone-enough _ (c .before .pre)) returns)

@@ -28,6 +28,6 @@ returns-3 c =
 pub is-longest-spec : {M : Type 1} → statement M
 is-longest-spec =
     tie.close
-    (tie.spec (search needs) (search needs) returns returns-2 (search needs)
+    (tie.spec (λ c κs. search needs) (λ c κs. search needs) returns returns-2 (λ c. search needs)
     (λ c κs. (search needs, omega arith, c .before .before .rank-of .ensures))
     returns-3)

@@ -60,8 +60,8 @@ returns-3 c =
 pub is-notarised-above-spec : {M : Type 1} → statement M
 is-notarised-above-spec =
     tie.close
-    (tie.spec Inv-loop μ-loop (search needs) (λ c. (search needs, refl)) (search needs) returns
+    (tie.spec Inv-loop μ-loop (λ c κs. search needs) (λ c. (search needs, refl)) (λ c κs. search needs) returns
     (λ c κs. omega (arith, c .before .before .before .before .office-count .ensures))
-    returns-2 (search needs) (search needs) (search needs) loop-again (search needs)
+    returns-2 (λ c κs. search needs) (λ c. search needs) (λ c. search needs) loop-again (λ c κs. search needs)
     (λ c κs. omega (arith, c .before .before .before .before .office-count .ensures))
     returns-3)

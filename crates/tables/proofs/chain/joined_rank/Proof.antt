@@ -10,5 +10,5 @@ pub joined-rank-spec : {M : Type 1} → statement M
 unfolding choose
 joined-rank-spec =
     tie.close
-    (tie.spec (λ c. rw (c .if1 .taken)) (search needs) (search needs) (λ c. omega (arith, c .before .pre (omega arith)))
+    (tie.spec (λ c. rw (c .if1 .taken)) (λ c. search needs) (λ c. search needs) (λ c. omega (arith, c .before .pre (omega arith)))
     (λ c. rw (ne-eqb _ _ (c .if1 .left))))

@@ -34,6 +34,6 @@ returns c =
 pub length-of-spec : {M : Type 1} → statement M
 length-of-spec =
     tie.close
-    (tie.spec Inv-loop μ-loop (λ c. (search needs, omega arith)) (search needs) (search needs)
+    (tie.spec Inv-loop μ-loop (λ c. (search needs, omega arith)) (λ c. search needs) (λ c κs. search needs)
     (λ c. rw (c .parent-at .ensures) (parent-in-lt _ _ _ (c .before .loop-test .taken)))
     loop-again returns)

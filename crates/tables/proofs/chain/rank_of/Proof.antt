@@ -67,7 +67,7 @@ rank-of-spec =
     tie.close
     (tie.spec Inv-loop μ-loop
     (λ c. (search needs, raised-start _, everyone-enough _ (c .pre)))
-    (search needs) (search needs) (search needs) (search needs) (λ c κs. c .before .before .before .loop .inv .2)
-    returns (search needs) (search needs)
+    (λ c κs. search needs) (λ c. search needs) (λ c. search needs) (λ c. search needs) (λ c κs. c .before .before .before .loop .inv .2)
+    returns (λ c. search needs) (λ c κs. search needs)
     (λ c. rw (c .parent-at .ensures) (parent-in-lt _ _ _ (above (c .before .before .before .before))))
-    loop-again (search needs) returns-2)
+    loop-again (λ c. search needs) returns-2)

@@ -18,6 +18,6 @@ abbrev μ-loop : tie.MeasureT-loop
 pub chunk-about-spec : {M : Type 1} → statement M
 chunk-about-spec =
     tie.close
-    (tie.spec Inv-loop μ-loop (λ c. (search needs, unfold any in refl)) (search needs) (search needs) (search needs) (search needs)
+    (tie.spec Inv-loop μ-loop (λ c. (search needs, unfold any in refl)) (λ c. search needs) (λ c. search needs) (λ c. search needs) (λ c. search needs)
     (λ c. (search needs, any-next _ _ _ _ (c .before .before .loop .inv .1) refl))
     (λ c. any-end _ _ _ _ (c .before .loop .inv .0) (c .loop-test .left) (c .before .loop .inv .1)))

@@ -20,7 +20,7 @@ abbrev μ-loop : tie.MeasureT-loop
 pub chunk-seen-spec : {M : Type 1} → statement M
 chunk-seen-spec =
     tie.close
-    (tie.spec Inv-loop μ-loop (λ c. (search needs, unfold any in refl)) (search needs) (search needs) (search needs)
-    (search needs) (search needs) (search needs)
+    (tie.spec Inv-loop μ-loop (λ c. (search needs, unfold any in refl)) (λ c. search needs) (λ c. search needs) (λ c. search needs)
+    (λ c κs. search needs) (λ c. search needs) (λ c. search needs)
     (λ c. (search needs, any-next _ _ _ _ (c .before .before .before .loop .inv .1) (c .is-last-stage .ensures)))
     (λ c. any-end _ _ _ _ (c .before .loop .inv .0) (c .loop-test .left) (c .before .loop .inv .1)))

@@ -44,7 +44,7 @@ returns-4 c =
 pub chunk-signed-spec : {M : Type 1} → statement M
 chunk-signed-spec =
     tie.close
-    (tie.spec Inv-loop μ-loop (search needs) returns (search needs) returns-2
+    (tie.spec Inv-loop μ-loop (λ c κs. search needs) returns (λ c κs. search needs) returns-2
     (λ c. (search needs, rw add-zero (c .before .before .before .before .pre .2)))
-    (search needs) (search needs) (search needs) (search needs) (search needs) returns-3 (search needs)
-    (search needs) loop-again returns-4)
+    (λ c. search needs) (λ c. search needs) (λ c. search needs) (λ c κs. search needs) (λ c κs. search needs) returns-3 (λ c. search needs)
+    (λ c. search needs) loop-again returns-4)

@@ -9,6 +9,6 @@ pub epoch-at-spec : {M : Type 1} → statement M
 unfolding epochIn choose
 epoch-at-spec =
     tie.close
-    (tie.spec (search needs) (search needs) (search needs)
+    (tie.spec (λ c κs. search needs) (λ c. search needs) (λ c. search needs)
     (λ c. rw (← (c .before .before .is-made .ensures), c .before .if1 .taken))
     (λ c. rw (← (c .before .is-made .ensures), c .if1 .left)))

@@ -29,5 +29,5 @@ pub in-history-spec : {M : Type 1} → statement M
 unfolding historyIn any
 in-history-spec =
     tie.close
-    (tie.spec Inv-loop μ-loop (search needs) (λ c. (search needs, refl)) (search needs) (search needs)
-    (search needs) (search needs) loop-again returns)
+    (tie.spec Inv-loop μ-loop (λ c κs. search needs) (λ c. (search needs, refl)) (λ c. search needs) (λ c κs. search needs)
+    (λ c. search needs) (λ c. search needs) loop-again returns)

@@ -9,5 +9,5 @@ pub is-match-spec : {M : Type 1} → statement M
 unfolding matchesIn
 is-match-spec =
     tie.close
-    (tie.spec (search needs) (search needs) (search needs) (search needs)
+    (tie.spec (λ c κs. search needs) (λ c κs. search needs) (λ c. search needs) (λ c. search needs)
     (λ c. rw (← (c .before .before .parent-at .ensures), ← (c .before .epoch-at .ensures)) (simp and-both)))

@@ -38,6 +38,6 @@ pub is-signed-spec : {M : Type 1} → statement M
 unfolding signedIn
 is-signed-spec =
     tie.close
-    (tie.spec Inv-loop μ-loop (search needs) (λ c. ((search needs, λ _. refl), unfold any in refl)) (search needs) chunk-signed-requires
+    (tie.spec Inv-loop μ-loop (λ c κs. search needs) (λ c. ((search needs, λ _. refl), unfold any in refl)) (λ c κs. search needs) chunk-signed-requires
     (λ c. sym (any-more _ _ _ (omega arith) (sym (c .before .chunk-signed .ensures) ∙ c .if1 .taken)))
-    (search needs) (search needs) loop-again returns-2)
+    (λ c. search needs) (λ c. search needs) loop-again returns-2)

@@ -21,7 +21,7 @@ pub may-match-spec : {M : Type 1} → statement M
 unfolding either
 may-match-spec =
     tie.close
-    (tie.spec Inv-loop μ-loop (λ c. rw (ne-eqb _ _ (c .if1 .taken))) (λ c. (search needs, unfold any in refl)) (search needs) (search needs)
-    (search needs) (search needs) (search needs) (search needs) (search needs) (search needs)
+    (tie.spec Inv-loop μ-loop (λ c. rw (ne-eqb _ _ (c .if1 .taken))) (λ c. (search needs, unfold any in refl)) (λ c. search needs) (λ c. search needs)
+    (λ c. search needs) (λ c. search needs) (λ c. search needs) (λ c. search needs) (λ c. search needs) (λ c. search needs)
     (λ c. (search needs, any-next _ _ _ _ (c .before .before .before .loop .inv .1) (and-both _ _)))
     (λ c. rw (eq-eqb _ _ (c .before .before .if1 .left)) (any-end _ _ _ _ (c .before .loop .inv .0) (c .loop-test .left) (c .before .loop .inv .1))))

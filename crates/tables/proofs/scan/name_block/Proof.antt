@@ -31,7 +31,7 @@ loop-again-2 c =
 pub name-block-spec : {M : Type 1} → statement M
 name-block-spec =
     tie.close
-    (tie.spec Inv-loop μ-loop (λ c i some made none. absurd (omega arith)) (search needs) (search needs) (search needs)
-    loop-again (search needs) (search needs) (search needs) returns (search needs) (search needs) loop-again-2
-    (search needs)
+    (tie.spec Inv-loop μ-loop (λ c i some made none. absurd (omega arith)) (λ c κs. search needs) (λ c. search needs) (λ c. search needs)
+    loop-again (λ c. search needs) (λ c κs. search needs) (λ c. search needs) returns (λ c. search needs) (λ c. search needs) loop-again-2
+    (λ c. search needs)
     (λ c. named-new _ _ _ _ _ _ _ _ (c .before .loop .inv) (c .loop-test .left)))

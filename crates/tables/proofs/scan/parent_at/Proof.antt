@@ -10,6 +10,6 @@ pub parent-at-spec : {M : Type 1} → statement M
 unfolding parentIn choose
 parent-at-spec =
     tie.close
-    (tie.spec (search needs) (search needs)
+    (tie.spec (λ c. search needs) (λ c κs. search needs)
     (λ c. rw (← (c .before .is-made .ensures), ← and-both, c .if1 .taken))
     (λ c. rw (← (c .before .is-made .ensures), ← and-both, c .if1 .left)))

@@ -7,4 +7,4 @@ use Rattle.tables.proofs.scan.says.Tie as tie
 
 pub says-spec : {M : Type 1} → statement M
 unfolding saysIn
-says-spec = tie.close (tie.spec (search needs) (search needs) (λ c. and-both _ _))
+says-spec = tie.close (tie.spec (λ c. search needs) (λ c. search needs) (λ c. and-both _ _))

@@ -7,4 +7,4 @@ use Rattle.tables.proofs.scan.trusted_at.Tie as tie
 
 pub trusted-at-spec : {M : Type 1} → statement M
 unfolding trustedIn
-trusted-at-spec = tie.close (tie.spec (search needs) (λ c. rw (c .has .ensures) (and-both _ _)))
+trusted-at-spec = tie.close (tie.spec (λ c κs. search needs) (λ c. rw (c .has .ensures) (and-both _ _)))

@@ -42,6 +42,6 @@ returns-2 c =
 pub chunk-signers-spec : {M : Type 1} → statement M
 chunk-signers-spec =
     tie.close
-    (tie.spec Inv-loop μ-loop (search needs) returns (λ c. (search needs, rw add-zero (c .before .before .pre .2)))
-    (search needs) (search needs) (search needs) (search needs) (search needs) (search needs)
-    (search needs) (search needs) loop-again returns-2)
+    (tie.spec Inv-loop μ-loop (λ c κs. search needs) returns (λ c. (search needs, rw add-zero (c .before .before .pre .2)))
+    (λ c. search needs) (λ c. search needs) (λ c. search needs) (λ c. search needs) (λ c. search needs) (λ c κs. search needs)
+    (λ c. search needs) (λ c. search needs) loop-again returns-2)

@@ -13,6 +13,6 @@ pub note-spec : {M : Type 1} → statement M
 unfolding choose
 note-spec =
     tie.close
-    (tie.spec (search needs) (search needs) (search needs) (search needs) (search needs) (search needs)
+    (tie.spec (λ c κs. search needs) (λ c. search needs) (λ c. search needs) (λ c κs. search needs) (λ c. search needs) (λ c. search needs)
     returns
     (λ c. (rw (sym (c .before .is-last-stage .ensures) ∙ c .if1 .left), search needs)))

@@ -34,5 +34,5 @@ returns c =
 pub signers-of-spec : {M : Type 1} → statement M
 signers-of-spec =
     tie.close
-    (tie.spec Inv-loop μ-loop (search needs) (λ c. ((search needs, λ _. refl), signers-none _ _ _ _ _)) (search needs)
-    chunk-signers-requires (search needs) (search needs) loop-again returns)
+    (tie.spec Inv-loop μ-loop (λ c κs. search needs) (λ c. ((search needs, λ _. refl), signers-none _ _ _ _ _)) (λ c κs. search needs)
+    chunk-signers-requires (λ c. search needs) (λ c. search needs) loop-again returns)

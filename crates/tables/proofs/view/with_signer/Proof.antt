@@ -20,6 +20,6 @@ pub with-signer-spec : {M : Type 1} → statement M
 unfolding choose both
 with-signer-spec =
     tie.close
-    (tie.spec (λ c. rw (ne-eqb _ _ (c .if1 .taken))) (search needs)
+    (tie.spec (λ c. rw (ne-eqb _ _ (c .if1 .taken))) (λ c κs. search needs)
     (λ c. rw (sym (c .before .is-last-stage .ensures) ∙ not-true _ (c .if2 .taken), both-none))
-    (search needs) returns-3)
+    (λ c κs. search needs) returns-3)
