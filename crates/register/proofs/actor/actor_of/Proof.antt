@@ -27,6 +27,6 @@ pub actor-of-spec : {M : Type 1} → statement M
 unfolding actorOf
 actor-of-spec =
     tie.close (tie.spec
-    (search needs)
+    (λ c. search needs)
     (λ c. rw (c .before .step .given .1))
     (λ c. others (c .before .args .step) (c .match .keys2)))

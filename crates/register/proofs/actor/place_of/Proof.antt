@@ -9,6 +9,6 @@ pub place-of-spec : {M : Type 1} → statement M
 unfolding choose
 place-of-spec =
     tie.close (tie.spec
-    (search needs)
+    (λ c. search needs)
     (λ c. (rw (lt-ltb _ _ (c .if1 .taken)), search needs))
     (λ c. (rw (le-ltb _ _ (c .if1 .left)), search needs)))

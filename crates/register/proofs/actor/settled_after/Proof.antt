@@ -10,5 +10,5 @@ unfolding choose
 settled-after-spec =
     tie.close (tie.spec
     (λ c. rw (ne-eqb _ _ (c .if1 .taken)))
-    (search needs)
+    (λ c κs. search needs)
     (λ c. rw (eq-eqb _ _ (c .before .if1 .left)) (c .with-member .ensures)))

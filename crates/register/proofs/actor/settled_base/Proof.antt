@@ -9,6 +9,6 @@ pub settled-base-spec : {M : Type 1} → statement M
 unfolding choose
 settled-base-spec =
     tie.close (tie.spec
-    (search needs)
+    (λ c κs. search needs)
     (λ c. (rw (sym (c .before .before .has .ensures) ∙ c .before .if1 .taken), search needs))
     (λ c. (rw (sym (c .before .has .ensures) ∙ c .if1 .left), search needs)))

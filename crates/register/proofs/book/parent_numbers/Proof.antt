@@ -18,6 +18,6 @@ parent-numbers-spec =
     Inv-loop
     μ-loop
     (λ c. copied-none _ _ _ (omega arith))
-    (search needs) (search needs) (search needs) (search needs)
+    (λ c. search needs) (λ c. search needs) (λ c. search needs) (λ c. search needs)
     (λ c. copied-more _ _ (block 0) (c .before .before .loop .inv) (search needs))
     (λ c. (copied-all _ _ (c .before .loop .inv) (omega arith), omega (arith, c .before .loop .inv .long))))

@@ -31,6 +31,6 @@ leaders-fit-spec =
     Inv-loop
     μ-loop
     (λ c. (search needs, refl))
-    (search needs) (search needs) (search needs)
+    (λ c. search needs) (λ c. search needs) (λ c. search needs)
     loop-again
     returns)

@@ -8,5 +8,5 @@ pub fresh-book-spec : {M : Type 1} → statement M
 unfolding freshBook
 fresh-book-spec =
     tie.close (tie.spec
-    (search needs) (search needs) (search needs) (search needs)
+    (λ c κs. search needs) (λ c. search needs) (λ c κs. search needs) (λ c κs. search needs)
     (λ c. rw (c .blank .ensures, c .before .leader-table .ensures, c .before .before .below .ensures)))

@@ -49,11 +49,11 @@ pub is-fit-spec : {M : Type 1} → statement M
 unfolding fit conj both
 is-fit-spec =
     tie.close (tie.spec
-    (search needs) (search needs)
+    (λ c κs. search needs) (λ c κs. search needs)
     (λ c. rw (sym (answered (c .before)) ∙ not-true _ (c .if1 .taken)))
-    (search needs)
+    (λ c. search needs)
     (λ c κs. in-ranges (c .before .before .before) .schedule)
-    (search needs)
+    (λ c κs. search needs)
     (λ c. omega (arith, in-ranges (before-leaders (before-blocks (c .before .before .before))) .messages))
     (λ c κs. in-ranges (before-leaders (before-blocks (c .before .before .before))) .messages)
     (λ c κs. in-ranges (before-leaders (before-blocks (before-messages c))) .offices)

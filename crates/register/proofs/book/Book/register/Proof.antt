@@ -8,7 +8,7 @@ pub register-spec : {M : Type 1} → statement M
 unfolding registerOf
 register-spec =
     tie.close (tie.spec
-    (search needs) (search needs) (search needs) (search needs) (search needs)
+    (λ c κs. search needs) (λ c κs. search needs) (λ c κs. search needs) (λ c κs. search needs) (λ c κs. search needs)
     (λ c.
     rw (c .about-of .ensures, c .before .signers-of .ensures, c .before .before .epochs-of .ensures)
     (rw (c .before .before .before .parents-of .ensures, c .before .before .before .before .leaders-of .ensures))))

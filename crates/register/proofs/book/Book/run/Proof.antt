@@ -111,9 +111,9 @@ run-spec =
     loop-holds
     (λ c. omega (arith, below c))
     (λ c. below c)
-    (search needs) (search needs)
+    (λ c κs. search needs) (λ c κs. search needs)
     (λ c. c .place-of .ensures .1)
-    (search needs) (search needs)
+    (λ c κs. search needs) (λ c κs. search needs)
     judge-requires
     (λ c. carried (c .before .before) .within .block)
     (λ c. omega (arith, carried (c .before .before) .within .block))
@@ -128,12 +128,12 @@ run-spec =
     (λ c. omega (arith, carried (c .before .before) .within .place))
     (λ c. carried (c .before .before) .within .place)
     (λ c. carried (c .before .before .before) .within .office)
-    (search needs)
+    (λ c κs. search needs)
     (λ c. below (judged-turn (c .before .before .before .before)))
     (λ c. omega (arith, below (judged-turn (c .before .before .before .before))))
     (λ c. below (judged-turn (c .before .before .before .before)))
     (λ c. omega (arith, below (judged-turn (c .before .before .before .before))))
     (λ c. omega (arith, judged-turn (c .before .before .before .before) .loop-test .taken))
     loop-again
-    (search needs)
+    (λ c κs. search needs)
     returns)

@@ -9,7 +9,4 @@ use Rattle.register.proofs.change.Change.named.Tie as tie
 pub named-spec : {M : Type 1} → statement M
 unfolding naming choose
 named-spec =
-    tie.close (tie.spec
-    (λ c. rw (le-leb _ _ (c .if1 .taken)))
-    (search needs)
-    (λ c. rw (lt-leb _ _ (c .before .if1 .left))))
+    tie.close (tie.spec (λ c. rw (le-leb _ _ (c .if1 .taken))) (λ c. search needs) (λ c. rw (lt-leb _ _ (c .before .if1 .left))))

@@ -13,7 +13,7 @@ pub advance-spec : {M : Type 1} → statement M
 unfolding ruleOf entriesOf advance
 advance-spec =
     tie.close (tie.spec
-    (search needs)
+    (λ c κs. search needs)
     (λ c. c .refused .ensures ∙ refuses _ _ _ 24 (search turns depth 4) (λ e. omega arith))
-    (search needs) (search needs) (search needs) (search needs)
+    (λ c. search needs) (λ c κs. search needs) (λ c. search needs) (λ c κs. search needs)
     (λ c. rw (c .accepted .ensures, c .before .timed .ensures) (accepts _ _ _ 0 (search turns depth 4) refl)))

@@ -11,9 +11,9 @@ bad-send-refusal-spec =
     tie.close (tie.spec
     (λ c. search answers depth 8)
     (λ c. search answers depth 8)
-    (search needs)
+    (λ c κs. search needs)
     (λ c. search answers depth 8)
-    (search needs)
+    (λ c κs. search needs)
     (λ c. search answers depth 8)
     (λ c. search answers depth 8)
     (λ c. search answers depth 8))

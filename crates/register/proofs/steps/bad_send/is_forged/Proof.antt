@@ -22,8 +22,4 @@ returns-2 c =
 
 pub is-forged-spec : {M : Type 1} → statement M
 is-forged-spec =
-    tie.close (tie.spec
-    (search needs)
-    returns
-    (search needs) (search needs) (search needs)
-    returns-2)
+    tie.close (tie.spec (λ c κs. search needs) returns (λ c. search needs) (λ c κs. search needs) (λ c κs. search needs) returns-2)

@@ -9,6 +9,6 @@ pub is-vote-spec : {M : Type 1} → statement M
 unfolding isVote
 is-vote-spec =
     tie.close (tie.spec
-    (search needs) (search needs)
+    (λ c. search needs) (λ c. search needs)
     (λ c. sym (ap isVote (c .enum-told .given .1)))
     (λ c. sym (ap isVote (c .enum-told2 .given .1))))

@@ -11,6 +11,6 @@ deliver-refusal-spec =
     tie.close (tie.spec
     (λ c. search turns depth 6)
     (λ c. search turns depth 6)
-    (search needs)
+    (λ c κs. search needs)
     (λ c. search turns depth 6)
     (λ c. search turns depth 6))

@@ -12,13 +12,13 @@ pub draft-spec : {M : Type 1} → statement M
 unfolding ruleOf entriesOf draft
 draft-spec =
     tie.close (tie.spec
-    (search needs)
+    (λ c κs. search needs)
     (λ c. c .refused .ensures ∙ refuses _ _ _ 7 (search answers depth 6) (λ e. omega arith))
-    (search needs)
+    (λ c κs. search needs)
     (λ c. c .refused2 .ensures ∙ refuses _ _ _ 9 (search answers depth 6) (λ e. omega arith))
-    (search needs) (search needs)
+    (λ c κs. search needs) (λ c κs. search needs)
     (λ c. c .refused3 .ensures ∙ refuses _ _ _ 25 (search answers depth 6) (λ e. omega arith))
-    (search needs) (search needs) (search needs)
+    (λ c. search needs) (λ c κs. search needs) (λ c κs. search needs)
     (λ c.
     rw (c .accepted .ensures, c .before .named .ensures, c .before .before .before .name-block .ensures)
     (accepts _ _ _ 0 (search answers depth 6) refl)))

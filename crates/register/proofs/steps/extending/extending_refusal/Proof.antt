@@ -30,8 +30,8 @@ searched c u found =
 pub extending-refusal-spec : {M : Type 1} → statement M
 extending-refusal-spec =
     tie.close (tie.spec
-    (search needs) (search needs) (search needs)
+    (λ c. search needs) (λ c κs. search needs) (λ c κs. search needs)
     (λ c. search (answers, searched (c .before) true (c .if1 .taken)) depth 6)
-    (search needs)
+    (λ c κs. search needs)
     (λ c. search (answers, searched (c .before .before .before .before) false (c .before .before .before .if1 .left)) depth 6)
     (λ c. search (answers, searched (c .before .before .before .before) false (c .before .before .before .if1 .left)) depth 6))

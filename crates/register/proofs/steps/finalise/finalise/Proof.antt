@@ -11,9 +11,9 @@ pub finalise-spec : {M : Type 1} → statement M
 unfolding ruleOf entriesOf finalise
 finalise-spec =
     tie.close (tie.spec
-    (λ c κs. search needs) (search needs)
+    (λ c κs. search needs) (λ c κs. search needs)
     (λ c. c .refused .ensures ∙ refuses _ _ _ _ (c .before .before .finalise-refusal .ensures) (c .before .if1 .taken))
-    (search needs) (search needs) (search needs) (search needs)
+    (λ c κs. search needs) (λ c κs. search needs) (λ c. search needs) (λ c κs. search needs)
     (λ c.
     rw (c .accepted .ensures, c .before .held .ensures, c .before .before .parent-at .ensures)
     (accepts _ _ _ _ (c .before .before .before .before .finalise-refusal .ensures)

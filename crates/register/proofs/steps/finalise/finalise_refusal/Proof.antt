@@ -11,7 +11,7 @@ finalise-refusal-spec =
     tie.close (tie.spec
     (λ c. search turns depth 7)
     (λ c. search turns depth 7)
-    (search needs)
+    (λ c κs. search needs)
     (λ c. search turns depth 7)
     (λ c κs.
     let given = c .before .before .before .before .before .before .before .before .pre in

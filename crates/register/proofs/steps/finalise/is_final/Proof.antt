@@ -30,7 +30,7 @@ returns-2 c =
 pub is-final-spec : {M : Type 1} → statement M
 is-final-spec =
     tie.close (tie.spec
-    (search needs) (search needs) (search needs)
+    (λ c κs. search needs) (λ c κs. search needs) (λ c κs. search needs)
     returns
-    (search needs) (search needs)
+    (λ c. search needs) (λ c κs. search needs)
     returns-2)

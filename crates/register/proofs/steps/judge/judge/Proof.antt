@@ -44,23 +44,23 @@ finalise-requires c κs =
 pub judge-spec : {M : Type 1} → statement M
 judge-spec =
     tie.close (tie.spec
-    (search needs) (search needs)
+    (λ c κs. search needs) (λ c κs. search needs)
     (λ c. promised-unfit (lent (c .before .before .before)) _ _ _ _ (c .before .before .unchanged .ensures) _ _ (c .before .if1 .taken) (c .refused .ensures))
-    (search needs)
+    (λ c. search needs)
     (λ c κs. counted (c .before .before .before))
-    (search needs)
+    (λ c. search needs)
     (λ c κs. counted (c .before .before .before))
-    (search needs)
+    (λ c. search needs)
     (λ c κs. counted (c .before .before .before))
-    (search needs)
+    (λ c. search needs)
     finalise-requires
-    (search needs)
+    (λ c. search needs)
     (λ c κs. counted (c .before .before .before))
-    (search needs)
+    (λ c. search needs)
     (λ c κs. counted (c .before .before .before))
-    (search needs)
+    (λ c. search needs)
     (λ c κs. counted (c .before .before .before))
-    (search needs)
+    (λ c. search needs)
     (λ c κs. counted (c .before .before))
     (λ c.
     arm (c .before .before .before .before) _ _ (c .before .before .step .given .1)

@@ -9,5 +9,6 @@ pub unchanged-spec : {M : Type 1} → statement M
 unfolding unchangedOf
 unchanged-spec =
     tie.close (tie.spec
-    (search needs) (search needs) (search needs) (search needs) (search needs) (search needs) (search needs)
+    (λ c. search needs) (λ c. search needs) (λ c. search needs) (λ c. search needs) (λ c. search needs) (λ c. search needs)
+    (λ c. search needs)
     (λ c. refl))

@@ -11,5 +11,5 @@ start c = c .before .before .before .before .before
 pub is-entered-spec : {M : Type 1} → statement M
 is-entered-spec =
     tie.close (tie.spec
-    (search needs) (search needs) (search needs) (search needs) (search needs)
+    (λ c. search needs) (λ c. search needs) (λ c. search needs) (λ c. search needs) (λ c κs. search needs)
     (λ c. found-signed _ _ _ _ _ (start c .pre .0 .messages) (start c .pre .2) (c .is-signed .ensures)))

@@ -24,7 +24,7 @@ unfolding stage choose
 stage-of-spec =
     tie.close (tie.spec
     (λ c. rw (le-ltb _ _ (c .if1 .taken), both-none))
-    (search needs)
+    (λ c κs. search needs)
     returns-2
-    (search needs) (search needs) (search needs) (search needs)
+    (λ c. search needs) (λ c. search needs) (λ c. search needs) (λ c κs. search needs)
     returns-3)

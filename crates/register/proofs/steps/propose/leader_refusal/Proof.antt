@@ -13,10 +13,10 @@ leader-refusal-spec =
     tie.close (tie.spec
     (λ c. search turns depth 8)
     (λ c. search turns depth 8)
-    (search needs)
+    (λ c κs. search needs)
     (λ c. search turns depth 8)
-    (search needs)
+    (λ c κs. search needs)
     (λ c. search turns depth 8)
-    (search needs)
+    (λ c κs. search needs)
     (λ c. search turns depth 8)
     (λ c. search turns depth 8))

@@ -23,7 +23,7 @@ pub parent-refusal-spec : {M : Type 1} → statement M
 unfolding propose until since choose positive both
 parent-refusal-spec =
     tie.close (tie.spec
-    (search needs)
+    (λ c κs. search needs)
     (λ c. early 19 _ _ (c .before .leader-refusal .ensures) (c .if1 .taken))
     extending-refusal-requires
     (λ c.

@@ -43,19 +43,20 @@ pub propose-spec : {M : Type 1} → statement M
 unfolding ruleOf entriesOf propose since choose sentStage
 propose-spec =
     tie.close (tie.spec
-    (search needs) (search needs)
+    (λ c κs. search needs) (λ c κs. search needs)
     (λ c.
     c .refused .ensures
     ∙ refuses _ _ _ _ (early 25 _ _ (found (c .before .before)) (c .before .if1 .taken)) (c .before .if1 .taken))
-    (search needs) (search needs)
+    (λ c κs. search needs) (λ c κs. search needs)
     (λ c.
     c .refused2 .ensures
     ∙ refuses _ _ _ 25 (past (c .before .before .before .before) 25 (search answers depth 4)) (λ e. omega arith))
-    (search needs)
+    (λ c κs. search needs)
     (λ c.
     c .refused3 .ensures
     ∙ refuses _ _ _ 26 (past (c .before .before .before .before .before .before) 26 (search answers depth 4)) (λ e. omega arith))
-    (search needs) (search needs) (search needs) (search needs) (search needs) (search needs)
+    (λ c κs. search needs) (λ c. search needs) (λ c κs. search needs) (λ c κs. search needs) (λ c κs. search needs)
+    (λ c κs. search needs)
     (λ c.
     rw (c .accepted .ensures, c .before .acted .ensures, c .before .before .sent .ensures)
     (rw (c .before .before .before .named .ensures, c .before .before .before .before .sent-place .ensures)

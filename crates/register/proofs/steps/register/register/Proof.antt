@@ -20,11 +20,11 @@ pub register-spec : {M : Type 1} → statement M
 unfolding ruleOf entriesOf register
 register-spec =
     tie.close (tie.spec
-    (search needs) (search needs)
+    (λ c κs. search needs) (λ c κs. search needs)
     (λ c. c .refused .ensures ∙ refuses _ _ _ _ (c .before .before .register-refusal .ensures) (c .before .if1 .taken))
-    (search needs) (search needs)
+    (λ c. search needs) (λ c. search needs)
     (λ c. sent (c .before))
-    (search needs) (search needs) (search needs)
+    (λ c κs. search needs) (λ c κs. search needs) (λ c κs. search needs)
     (λ c.
     rw (c .accepted .ensures, c .before .moved .ensures, c .before .before .with-stage .ensures)
     (accepts _ _ _ _ (c .before .before .before .before .before .before .register-refusal .ensures)

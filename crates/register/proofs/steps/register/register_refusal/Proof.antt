@@ -12,11 +12,11 @@ register-refusal-spec =
     tie.close (tie.spec
     (λ c. search turns depth 9)
     (λ c. search turns depth 9)
-    (search needs)
+    (λ c κs. search needs)
     (λ c. search turns depth 9)
-    (search needs)
+    (λ c κs. search needs)
     (λ c. search turns depth 9)
-    (search needs) (search needs)
+    (λ c. search needs) (λ c. search needs)
     (λ c. search turns depth 9)
     (λ c κs.
     let at = c .before .before .before .before .before in

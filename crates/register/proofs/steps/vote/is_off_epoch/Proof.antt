@@ -10,5 +10,5 @@ returns c = rw (or-either, c .before .before .before .leads .ensures, c .before 
 pub is-off-epoch-spec : {M : Type 1} → statement M
 is-off-epoch-spec =
     tie.close (tie.spec
-    (search needs) (search needs) (search needs) (search needs) (search needs)
+    (λ c. search needs) (λ c. search needs) (λ c κs. search needs) (λ c. search needs) (λ c κs. search needs)
     returns)

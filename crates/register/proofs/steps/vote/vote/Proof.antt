@@ -25,13 +25,13 @@ pub vote-spec : {M : Type 1} → statement M
 unfolding ruleOf entriesOf vote sentStage
 vote-spec =
     tie.close (tie.spec
-    (search needs) (search needs)
+    (λ c κs. search needs) (λ c κs. search needs)
     (λ c. c .refused .ensures ∙ refuses _ _ _ _ (c .before .before .vote-refusal .ensures) (c .before .if1 .taken))
-    (search needs) (search needs)
+    (λ c. search needs) (λ c κs. search needs)
     (λ c. sent (c .before .before))
-    (search needs)
+    (λ c. search needs)
     (λ c. sent (c .before .before .before))
-    (search needs) (search needs) (search needs) (search needs) (search needs)
+    (λ c κs. search needs) (λ c κs. search needs) (λ c κs. search needs) (λ c κs. search needs) (λ c κs. search needs)
     (λ c.
     rw (c .accepted .ensures, c .before .acted .ensures, c .before .before .moved .ensures)
     (rw (c .before .before .before .sent .ensures, c .before .before .before .before .with-stage .ensures)

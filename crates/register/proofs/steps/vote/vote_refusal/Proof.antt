@@ -86,13 +86,13 @@ pub vote-refusal-spec : {M : Type 1} → statement M
 unfolding vote since choose stage signed
 vote-refusal-spec =
     tie.close (tie.spec
-    (search needs)
+    (λ c κs. search needs)
     (λ c. early 18 _ _ (found (c .before)) (c .if1 .taken))
     (λ c κs. (search needs, sent c, trusts c))
     (λ c. past (c .before .before) 18 (hit _ _ _ (answered _ _ _ (c .before .is-entered .ensures) (c .if2 .taken))))
-    (search needs)
+    (λ c. search needs)
     (λ c. sent (c .before .before .before))
-    (search needs) (search needs)
+    (λ c κs. search needs) (λ c κs. search needs)
     (λ c κs. (search needs, trusts (c .before .before .before .before .before .before)))
     (λ c. later (past-18 (c .before)) _ (early 26 _ _ (extends (c .before)) (c .if3 .taken)))
     (λ c. last (c .before .before) 26 (search turns depth 3))

@@ -18,5 +18,5 @@ returns c =
 pub book-spec : {M : Type 1} → statement M
 book-spec =
     tie.close (tie.spec
-    (search needs) (search needs) (search needs) (search needs) (search needs)
+    (λ c κs. search needs) (λ c κs. search needs) (λ c κs. search needs) (λ c κs. search needs) (λ c κs. search needs)
     returns)

@@ -7,5 +7,5 @@ use Rattle.register.proofs.table.Register.step.Tie as tie
 pub step-spec : {M : Type 1} → statement M
 step-spec =
     tie.close (tie.spec
-    (search needs) (search needs) (search needs)
+    (λ c κs. search needs) (λ c. search needs) (λ c. search needs)
     (λ c. ran-one _ _ _ (c .before .before .before .run .ensures)))
