@@ -57,9 +57,9 @@ read-part-spec =
     Inv-loop
     μ-loop
     (λ c. gathered-none _ _)
-    (search needs)
+    (λ c κs. search needs)
     (λ c. c .match .keys1)
-    (search needs) (search needs) (search needs) (search needs)
+    (λ c. search needs) (λ c. search needs) (λ c. search needs) (λ c. search needs)
     loop-again
     (λ c. gathered-part _ _ _ (c .before .loop .inv) (inl (omega (arith, c .before .loop .inv .count, c .before .loop .inv .few))))
     returns-2)

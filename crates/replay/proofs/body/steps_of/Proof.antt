@@ -36,6 +36,6 @@ steps-of-spec =
     Inv-loop
     μ-loop
     (λ c. (search needs, copied-none step _ _ (sym (full c))))
-    (search needs) (search needs) (search needs) (search needs) (search needs) (search needs)
+    (λ c. search needs) (λ c. search needs) (λ c. search needs) (λ c. search needs) (λ c. search needs) (λ c. search needs)
     loop-again
     (λ c. copied-all step _ (c .before .loop .inv .1) (omega (arith, full (c .before .before)))))

@@ -11,5 +11,5 @@ unfolding choose
 fitted-spec =
     tie.close (tie.spec
     (λ c. rw (le-leb _ _ (c .if1 .taken)) (refl, refl))
-    (search needs) (search needs)
+    (λ c κs. search needs) (λ c. search needs)
     (λ c. rw (lt-leb _ _ (c .before .before .before .before .if1 .left)) (refl, c .before .before .clear .ensures)))

@@ -31,7 +31,7 @@ returns-2 c =
 pub write-report-spec : {M : Type 1} → statement M
 write-report-spec =
     tie.close (tie.spec
-    (search needs) (search needs) (search needs) (search needs)
+    (λ c κs. search needs) (λ c κs. search needs) (λ c κs. search needs) (λ c. search needs)
     returns
-    (search needs) (search needs)
+    (λ c κs. search needs) (λ c. search needs)
     returns-2)

@@ -38,7 +38,8 @@ write-batch-spec =
     Inv-loop
     μ-loop
     (λ c. (search needs, omega arith, record { counted = sym (add-zero _); laid = refl }))
-    (search needs) (search needs) (search needs) (search needs) (search needs) (search needs) (search needs)
+    (λ c. search needs) (λ c. search needs) (λ c. search needs) (λ c. search needs) (λ c κs. search needs) (λ c. search needs)
+    (λ c. search needs)
     loop-again
     (λ c. same-size (c .before .loop .inv .2))
     returns)

@@ -36,7 +36,7 @@ returns-2 c =
 pub write-office-spec : {M : Type 1} → statement M
 write-office-spec =
     tie.close (tie.spec
-    (search needs)
+    (λ c κs. search needs)
     returns
-    (search needs) (search needs) (search needs) (search needs)
+    (λ c κs. search needs) (λ c κs. search needs) (λ c κs. search needs) (λ c. search needs)
     returns-2)

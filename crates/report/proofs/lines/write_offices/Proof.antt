@@ -39,7 +39,7 @@ write-offices-spec =
     μ-loop
     (λ c. (search needs, omega arith, record { counted = sym (add-zero _); laid = refl }))
     (λ c κs. (omega arith, omega arith))
-    (search needs) (search needs)
+    (λ c. search needs) (λ c. search needs)
     loop-again
     (λ c. same-size (c .before .loop .inv .2))
     returns)

@@ -59,11 +59,11 @@ write-run-spec =
     Inv-loop
     μ-loop
     (λ c. run-begins _ _ _ (body-few _ _))
-    (search needs) (search needs) (search needs)
+    (λ c κs. search needs) (λ c κs. search needs) (λ c κs. search needs)
     (λ c κs. (counts (c .before .before .before .before .before .before .before .before .before) .0, counts (c .before .before .before .before .before .before .before .before .before) .1, omega arith))
     (λ c. omega (arith, counts (c .before .before .before .before .before .before .before .before .before .before .before .before) .1))
     loop-less
     loop-again
-    (search needs)
+    (λ c κs. search needs)
     (λ c. same-size (c .before .before .write-offices .ensures .0) ∙ c .before .before .before .before .before .before .loop .inv .sized)
     returns)

@@ -47,10 +47,10 @@ write-decimal-spec =
     tie.close (tie.spec
     Inv-loop
     μ-loop
-    (search needs) (search needs)
+    (λ c κs. search needs) (λ c. search needs)
     (λ c. (search needs, search needs, search needs, refl))
     (λ c. omega (arith, decimal-some (c .before .loop .rest) (omega arith) .0))
-    (search needs) (search needs)
+    (λ c κs. search needs) (λ c. search needs)
     loop-again
     (λ c κs. (omega arith, omega arith))
     (λ c. same-size (returns c .0))

@@ -16,6 +16,4 @@ returns c =
 
 pub write-log-line-spec : {M : Type 1} → statement M
 write-log-line-spec =
-    tie.close (tie.spec
-    (search needs) (search needs) (search needs) (search needs)
-    returns)
+    tie.close (tie.spec (λ c. search needs) (λ c κs. search needs) (λ c κs. search needs) (λ c. search needs) returns)

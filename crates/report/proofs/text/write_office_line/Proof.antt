@@ -18,6 +18,4 @@ returns c =
 
 pub write-office-line-spec : {M : Type 1} → statement M
 write-office-line-spec =
-    tie.close (tie.spec
-    (search needs) (search needs) (search needs) (search needs)
-    returns)
+    tie.close (tie.spec (λ c. search needs) (λ c κs. search needs) (λ c κs. search needs) (λ c. search needs) returns)

@@ -15,6 +15,4 @@ returns c =
 
 pub write-three-spec : {M : Type 1} → statement M
 write-three-spec =
-    tie.close (tie.spec
-    (search needs) (search needs) (search needs) (search needs)
-    returns)
+    tie.close (tie.spec (λ c κs. search needs) (λ c κs. search needs) (λ c κs. search needs) (λ c. search needs) returns)

@@ -42,9 +42,9 @@ write-word-spec =
     tie.close (tie.spec
     Inv-loop
     μ-loop
-    (λ c. search needs) (search needs)
+    (λ c. search needs) (λ c. search needs)
     put-requires
-    (search needs) (search needs)
+    (λ c. search needs) (λ c. search needs)
     loop-again
     (λ c. same-size (c .before .loop .inv .1))
     returns)
