@@ -16,7 +16,7 @@ use Rattle.register.specs.declared.step.Step.{Step}
 use Rattle.packed_log.specs.Bits.{Bytes, bits, bytes, put}
 use Rattle.packed_log.specs.Rows.{rowOf}
 use Rattle.packed_log.specs.Writing.{stepBits, endBits, wide, room, short, openingRefused, stepRefused, endRefused, wrote, laid}
-use Rattle.packed_log.specs.Logs.{Case, stepsBits, bodyBits, packed, anyWide, Packable, Filled, afterCall, afterStepCalls, afterOpeningCall, afterEndCall, afterCalls}
+use Rattle.packed_log.specs.Logs.{Case, stepsBits, bodyBits, packed, anyWide, Filled, afterCall, afterStepCalls, afterOpeningCall, afterEndCall, afterCalls}
 use Rattle.packed_log.proofs.BitsLaws.{length-bits, length-put, put-put, put-left, put-none, bytes-bits}
 use Rattle.packed_log.proofs.Windows.{bytes-drop}
 use Rattle.packed_log.proofs.WritingLaws.{row-fits, end-fits, opening-room}
@@ -99,11 +99,20 @@ put-start buffer m t h long room =
     let start : put (take m buffer) 0 t ≡ bytes t = put-over (take m buffer) t (rw front long) in
     rw (take-append-drop, start) at (put-left (take m buffer) (drop m buffer) 0 t (bytes-drop m buffer h) within)
 
--- the calls for a case that can be packed, where the buffer has room, lay its packed form
-pub calls-lay : (buffer : List ℕ) → Bytes buffer → (c : Case) → Packable c → length (packed c) ≤ length buffer
-    → afterCalls buffer c ≡ record { buffer = packed c ++ drop (length (packed c)) buffer; at = 8 * length (packed c) }
-unfolding afterCalls bodyBits packed
-calls-lay buffer h c packable within =
+-- what is packed reads back as the same opening and steps
+pub reads-back : ReadsBack
+unfolding ReadsBack
+reads-back c h = log-reads (packed c) c (h .small) (h .opens) (h .narrow) (packed-row c)
+
+-- a log that reads as an opening with steps is its packed form, byte for byte
+pub one-form : OneForm
+unfolding OneForm packed
+one-form log bytes-log c h = sym (bytes-bits log bytes-log) ∙ ap bytes (log-stands log c h)
+
+-- the calls of the writer for an opening, its steps and the end write the packed form, leave the bytes behind it and give its last position
+pub calls-pack : CallsPack
+unfolding CallsPack afterCalls bodyBits packed
+calls-pack buffer h c packable within =
     let m : ℕ = length (packed c) in
     let long : length (caseBits c) ≡ 8 * m = ap length (sym (packed-row c)) ∙ length-bits (packed c) in
     let all : Room buffer (caseBits c) = omega (arith, packable .small) in
@@ -117,18 +126,3 @@ calls-lay buffer h c packable within =
       start,
       long,
     )
-
--- what is packed reads back as the same opening and steps
-pub reads-back : ReadsBack
-unfolding ReadsBack
-reads-back c h = log-reads (packed c) c (h .small) (h .opens) (h .narrow) (packed-row c)
-
--- a log that reads as an opening with steps is its packed form, byte for byte
-pub one-form : OneForm
-unfolding OneForm packed
-one-form log bytes-log c h = sym (bytes-bits log bytes-log) ∙ ap bytes (log-stands log c h)
-
--- the calls of the writer for an opening, its steps and the end write the packed form, leave the bytes behind it and give its last position
-pub calls-pack : CallsPack
-unfolding CallsPack
-calls-pack = calls-lay

@@ -5,7 +5,7 @@ use mathlib.Core.Bool.{true, false, not, Bool}
 use mathlib.Core.List.{List, [], _++_, append-assoc, append-nil}
 use native.Mathlib.Omega.{arith}
 use borrow.Author.Tests.{ltb-false, leb-false, eqb-true, not-false, le-ltb, lt-leb, eq-eqb, ne-eqb, ltb-true, lt-ltb}
-use lib.Dec.{eqb, eqb·suc-zero, ltb}
+use lib.Dec.{eqb, eqb·suc-zero, ltb, T}
 use lib.ListN.{length, drop, length-append, drop-of-length-le}
 use Rattle.words.specs.Tests.{choose, both}
 use Rattle.words.specs.Refusals.{first}
@@ -17,6 +17,7 @@ use Rattle.packed_log.specs.Bits.{num, field, toBits, bits}
 use Rattle.packed_log.specs.Widths.{kinds, fields, width, due}
 use Rattle.packed_log.specs.Rows.{rowOf, stepOf, Narrow}
 use Rattle.packed_log.specs.Items.{left, kindAt, rowAt, padded, itemTests, refusalAt, skipped, skippedAt, read, withFields, itemAt, numbers, numbersAt}
+use Rattle.packed_log.proofs.Judging.{judging}
 use Rattle.packed_log.proofs.BitsLaws.{field-lt, length-bits}
 use Rattle.packed_log.proofs.RowLaws.{row-step, step-row, narrow}
 use lib.Pow.{pow-pos}
@@ -40,7 +41,7 @@ pub record Whole (log : List ℕ) (p : ℕ) : Type 0 where
 module _ (log : List ℕ) (p : ℕ) where
   -- nothing is refused where they say it
   pub unrefused : Whole log p → refusalAt log p ≡ 0
-  unfolding refusalAt first choose
+  unfolding first choose
   unrefused whole =
       rw (
         le-ltb 65536 (length log) (whole .small),
@@ -52,7 +53,7 @@ module _ (log : List ℕ) (p : ℕ) where
 
   -- and only there
   pub whole : refusalAt log p ≡ 0 → Whole log p
-  unfolding refusalAt Clear positive both
+  unfolding Clear positive both
   whole none =
       let k : ℕ = kindAt log p in
       let tests : Clear (itemTests log p k) = first-clear (itemTests log p k) refl none in
@@ -80,21 +81,28 @@ module _ (log : List ℕ) (p : ℕ) where
         let here : skippedAt log p ≡ skipped k 0 (p + 4 + due k) = rw (unrefused good, step) in
         rw (here, step)
 
--- what was refused is skipped with its number
-pub refused-by : (log : List ℕ) (p k : ℕ) → k ≡ refusalAt log p → 0 < k → skipped 0 k p ≡ skippedAt log p
+-- For `search skipping`: what is refused is skipped with its number, before a kind is read, and by the kind that was read
+pub refused-at : (log : List ℕ) (p number : ℕ) (x : Skipped) → x ≡ skipped 0 number p → number ≡ refusalAt log p → T (ltb 0 number)
+    → x ≡ skippedAt log p
 unfolding skippedAt choose
-refused-by log p k e some = rw (← e, ne-eqb k 0 (omega arith))
+refused-at log p number x e same some = e ∙ rw (← same, ne-eqb number 0 (λ none. rw none at some))
 
--- what was not is the end, or a step
-pub ended-by : (log : List ℕ) (p kind : ℕ) → kind ≡ kindAt log p → 0 ≡ refusalAt log p → kind ≡ 0
+pub refused-by : (log : List ℕ) (p kind number : ℕ) (x : Skipped) → x ≡ skipped 0 number p → kind ≡ kindAt log p
+    → number ≡ first (itemTests log p kind) → T (ltb 0 number) → x ≡ skippedAt log p
+refused-by log p kind number x e read same some = refused-at log p number x e (rw (← read) same) some
+
+pub ruleset skipping = (judging, refused-at, refused-by, tt)
+
+-- what is not refused is the end, or a step
+pub ended-by : (log : List ℕ) (p kind : ℕ) → kind ≡ kindAt log p → 0 ≡ first (itemTests log p kind) → kind ≡ 0
     → skipped kind 0 (8 * length log) ≡ skippedAt log p
 unfolding skippedAt choose
-ended-by log p kind e none end = rw (← none, ← e, end)
+ended-by log p kind read none end = rw (← read, ← none, end)
 
-pub stepped-by : (log : List ℕ) (p kind size : ℕ) → kind ≡ kindAt log p → 0 ≡ refusalAt log p → (kind ≡ 0 → ⊥) → size ≡ due kind
+pub stepped-by : (log : List ℕ) (p kind size : ℕ) → kind ≡ kindAt log p → 0 ≡ first (itemTests log p kind) → (kind ≡ 0 → ⊥) → size ≡ due kind
     → skipped kind 0 (p + 4 + size) ≡ skippedAt log p
 unfolding skippedAt choose
-stepped-by log p kind size e none step long = rw (← none, ← e, ne-eqb kind 0 step, long)
+stepped-by log p kind size read none step long = rw (← read, ← none, ne-eqb kind 0 step, long)
 
 -- the three outcomes of what stands at position p
 pub data Outcome (log : List ℕ) (p : ℕ) : Skipped → Type 0 where
@@ -142,7 +150,7 @@ numbers-by log p x (ended whole none) = refl
 numbers-by log p x (stepped whole some) = rw (ne-eqb (kindAt log p) 0 (omega arith), same-row log p whole some)
 
 pub item-numbers : (log : List ℕ) (p : ℕ) → numbers (itemAt log p .item) ≡ numbersAt log p
-unfolding itemAt numbersAt
+unfolding itemAt
 item-numbers log p = numbers-by log p (skippedAt log p) (outcome log p)
 
 -- what was skipped, with its fields, is the item, and has its numbers

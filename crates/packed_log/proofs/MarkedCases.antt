@@ -22,6 +22,7 @@ use Rattle.packed_log.specs.Writing.{trustBits, leaderBits, openingBits,
 use Rattle.packed_log.specs.Logs.{Case, stepsBits, bodyBits, packed, anyWide, Packable}
 use Rattle.packed_log.specs.MarkedCases.{Says, AllHold, marked}
 use Rattle.packed_log.proofs.BitsLaws.{length-bits}
+use Rattle.packed_log.proofs.RowLaws.{_&_}
 use Rattle.packed_log.proofs.WritingLaws.{length-row, length-opening, length-end}
 use Rattle.packed_log.proofs.LogsReadBack.{packed-row}
 
@@ -56,40 +57,14 @@ alone-bytes = rw alone-bits
 
 pub marked-hold : AllHold marked
 unfolding Says AllHold marked enough tooMany choose
-marked-hold = (
-  refl,
-  (
-    refl,
-    (
-      refl,
-      (
-        refl,
-        (
-          refl,
-          (
-            refl,
-            (
-              refl,
-              (
-                mistrusts 1 3 (omega arith) (omega arith) (counted .1),
-                (
-                  mistrusts 1 4 (omega arith) (omega arith) (counted .2),
-                  (
-                    mistrusts 10 32 (omega arith) (omega arith) (counted .3),
-                    (
-                      mistrusts 11 32 (omega arith) (omega arith) (counted .4),
-                      (alone-bytes, record {}),
-                    ),
-                  ),
-                ),
-              ),
-            ),
-          ),
-        ),
-      ),
-    ),
-  ),
-)
+marked-hold =
+    refl & refl & refl & refl & refl & refl & refl
+    & mistrusts 1 3 (omega arith) (omega arith) (counted .1)
+    & mistrusts 1 4 (omega arith) (omega arith) (counted .2)
+    & mistrusts 10 32 (omega arith) (omega arith) (counted .3)
+    & mistrusts 11 32 (omega arith) (omega arith) (counted .4)
+    & alone-bytes
+    & record {}
 
 -- one trusted office that leads one epoch; a proposal and an advance
 abbrev pub two-steps : Case

@@ -1,5 +1,5 @@
 -- Laws of openings: what their tests say; the trust word bit by bit, the leaders one by one; and the tests that reading an opening makes.
-use Prim.Native.Nat.{ℕ, _≤_, _<_, zero, suc, _+_, _*_, _%_, _^_, _/_, min}
+use Prim.Native.Nat.{ℕ, _≤_, _<_, zero, suc, _+_, _*_, _%_, _^_}
 use mathlib.Core.Path.{_≡_, refl, sym, ap, _∙_}
 use mathlib.Core.Bool.{true, false, Bool, not}
 use mathlib.Core.List.{List, [], _∷_, _++_}
@@ -10,13 +10,13 @@ use Rattle.quorum.specs.Opening.{untrusted, tooMany, stray, openingTests, openi
 use Rattle.words.specs.Tests.{both, between, choose, any}
 use Rattle.words.proofs.Tests.{any-none, between-true, clash, between-make}
 use Rattle.words.proofs.Refusals.{positive, Clear, first-clear, first-before, first-behind}
-use native.Mathlib.Nat.{add-zero, mod-eq-of-lt, min-le-left, min-le-right}
+use native.Mathlib.Nat.{add-zero, mod-eq-of-lt}
 use native.Mathlib.Numerals.{add-one}
 use native.Mathlib.Omega.{arith}
 use lib.Seq.{take-suc, take-set-le, getD-set-same}
 use Rattle.words.proofs.Digits.{pow-within, fill-next}
 use Rattle.packed_log.specs.Bits.{field}
-use Rattle.packed_log.specs.Openings.{trustIn, leadersAt, countIn, lengthIn, thereIn, frontTests, leaderTests, openingTestsIn, openingRefusalIn, opened, openedBy, openingIn}
+use Rattle.packed_log.specs.Openings.{trustIn, leadersAt, countIn, lengthIn, thereIn, frontTests, leaderTests, openingTestsIn, opened, openedBy, openingIn}
 use Rattle.packed_log.proofs.BitsLaws.{field-lt}
 use Rattle.words.specs.Refusals.{_⇒_, first}
 use Rattle.register.specs.declared.table.Register.{Register}
@@ -54,7 +54,6 @@ accepted n trust schedule h =
 -- a loop's next turn: the trust bits of the offices below q are in the word, and now that of office q
 pub next-trust : (log : List ℕ) (q w d : ℕ) → q < 32 → w ≡ trustIn log q → d ≡ field log (6 + q) 1
     → (w + d * 2 ^ q % 4294967296 ≡ trustIn log (q + 1)) × (w + d * 2 ^ q % 4294967296 < 4294967296)
-unfolding trustIn
 next-trust log q w d h ew ed =
     let f : ℕ → ℕ = λ k. field log (6 + k) 1 in
     let whole : 2 ^ q % 2 ^ 32 ≡ 2 ^ q = pow-within 2 q 32 (omega arith) h in
@@ -82,14 +81,6 @@ pub next-leader : (log : List ℕ) (p i x : ℕ) (l : List ℕ) → i < length l
 next-leader log p i x l h before e =
     let room : i < length (set l i x) = rw length-set h in
     rw (add-one, take-suc (set l i x) i 0 room, take-set-le i l i x (omega arith), getD-set-same, before, e) (sym (leaders-snoc log p i))
-
--- no more leaders are there than the schedule has, nor than there is room for
-pub there-most : (log : List ℕ) (n k : ℕ) → (thereIn log n k ≤ k) × (5 * thereIn log n k ≤ left log (15 + n))
-unfolding thereIn
-there-most log n k =
-    let room : ℕ = left log (15 + n) / 5 in
-    let whole : min k room ≤ room = min-le-right k room in
-    (min-le-left k room, omega arith)
 
 -- the refusal of all leaders, told from that of opening those that are there: by what is tested of their number (b), of each (s), of
 -- how many there should be (c) and of the untrusted offices (m)
@@ -162,7 +153,7 @@ module _ (log : List ℕ) (n k : ℕ) (low : 1 ≤ n) (high : n ≤ 32) (some : 
     same =
         let schedule : List ℕ = leadersAt log (15 + n) there in
         let long : length schedule ≡ there = length-leadersAt log (15 + n) there in
-        told ∙ rw (opens, ← whole) (rw long at (led n (trustIn log n) k schedule low high some (omega (arith, there-most log n k))))
+        told ∙ rw (opens, ← whole) (rw long at (led n (trustIn log n) k schedule low high some (omega arith)))
 
     -- some leader is refused
     pub leaders-refused : (refusal ≡ 0 → ⊥) → opened closed refusal 0 ≡ openedBy log n k (first (leaderTests log n k))
@@ -172,7 +163,7 @@ module _ (log : List ℕ) (n k : ℕ) (low : 1 ≤ n) (high : n ≤ 32) (some : 
     pub leaders-opened : refusal ≡ 0 → opened (o .register) refusal (15 + n + 5 * k) ≡ openedBy log n k (first (leaderTests log n k))
     leaders-opened good =
         let clear : (k ≤ there) × (o .refusal ≡ 0) = told-none there k (o .refusal) (sym told ∙ good) in
-        let all : there ≡ k = omega (arith, there-most log n k) in
+        let all : there ≡ k = omega arith in
         let held : o .register ≡ fresh n (trustIn log n) (leadersAt log (15 + n) k) = rw (← all) (opened-register n (trustIn log n) (leadersAt log (15 + n) there) o opens (clear .1)) in
         opened-whole log n k refusal (o .register) good held ∙ ap (openedBy log n k) same
 
@@ -197,7 +188,7 @@ front-clear log n k h =
 module _ (log : List ℕ) (n k : ℕ) (count : n ≡ countIn log) (epochs : k ≡ lengthIn log n) where
   -- the opening, by the first of all the tests
   by-refusal : (refusal : ℕ) → refusal ≡ first (openingTestsIn log n k) → openedBy log n k refusal ≡ openingIn log
-  unfolding openingIn openingRefusalIn
+  unfolding openingIn
   by-refusal refusal same = rw (same, epochs, count)
 
   -- something is refused up to the schedule's length

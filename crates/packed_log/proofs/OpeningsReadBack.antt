@@ -28,7 +28,7 @@ use Rattle.packed_log.specs.Writing.{trustBits, leaderBits, openingBits}
 use Rattle.packed_log.proofs.BitRows.{bit-row}
 use Rattle.packed_log.proofs.BitsLaws.{field-lt}
 use Rattle.packed_log.proofs.WritingLaws.{length-trust, length-leaders, length-opening}
-use Rattle.packed_log.proofs.OpeningLaws.{Accepted, accepted, length-leadersAt, there-most}
+use Rattle.packed_log.proofs.OpeningLaws.{Accepted, accepted, length-leadersAt}
 use Rattle.packed_log.proofs.Standing.{Stands, left-stands, stands-behind, value-stands, value-behind, stands-field}
 
 -- trust bits that stand at a position are read there
@@ -107,7 +107,7 @@ record Parts (log : List ℕ) (n trust : ℕ) (schedule : List ℕ) : Type 0 whe
 -- the parts of an opening that stands at the log's start are read there
 parts-read : (log : List ℕ) (n trust : ℕ) (schedule : List ℕ) (u : List Bool) → Accepted n trust schedule
     → Stands log 0 (openingBits n trust schedule ++ u) → Parts log n trust schedule
-unfolding openingBits trustIn
+unfolding openingBits
 parts-read log n trust schedule u tests h =
     let k : ℕ = length schedule in
     let offices : (1 ≤ n) × (n ≤ 32) = tests .count in
@@ -131,7 +131,7 @@ parts-read log n trust schedule u tests h =
 -- where the parts of an opening that is not refused are read from a log that is not too long, nothing is refused
 parts-clear : (log : List ℕ) (n trust : ℕ) (schedule : List ℕ) → length log ≤ 65536
     → Accepted n trust schedule → Parts log n trust schedule → first (openingTestsIn log n (length schedule)) ≡ 0
-unfolding thereIn first choose
+unfolding first choose
 parts-clear log n trust schedule small tests parts =
     let k : ℕ = length schedule in
     let there : thereIn log n k ≡ k = omega (arith, parts .room) in
@@ -154,7 +154,7 @@ parts-clear log n trust schedule small tests parts =
 pub opening-reads : (log : List ℕ) (n trust : ℕ) (schedule : List ℕ) (u : List Bool) → length log ≤ 65536
     → openingRefusal n trust schedule ≡ 0 → Stands log 0 (openingBits n trust schedule ++ u)
     → openingIn log ≡ opened (fresh n trust schedule) 0 (length (openingBits n trust schedule))
-unfolding openingIn openedBy openingRefusalIn freshBook fresh choose
+unfolding openingIn openedBy freshBook fresh choose
 opening-reads log n trust schedule u small h stands =
     let tests : Accepted n trust schedule = accepted n trust schedule h in
     let parts : Parts log n trust schedule = parts-read log n trust schedule u tests stands in
@@ -173,7 +173,7 @@ opening-reads log n trust schedule u small h stands =
 -- an opening whose parts are read at the log's start stands there
 parts-stand : (log : List ℕ) (n trust : ℕ) (schedule : List ℕ) → Parts log n trust schedule
     → Stands log 0 (openingBits n trust schedule ++ drop (15 + n + 5 * length schedule) (bits log))
-unfolding openingBits trustIn
+unfolding openingBits
 parts-stand log n trust schedule parts =
     let k : ℕ = length schedule in
     let bit : (q : ℕ) → q < n → field log (6 + q) 1 ≡ digit 2 trust q = word-digit log 6 n trust (parts .word) in
@@ -213,21 +213,21 @@ unfolding Clear positive both
 fine log n k h =
     let tests : Clear (openingTestsIn log n k) = first-clear (openingTestsIn log n k) refl h in
     let most : k ≤ thereIn log n k = ltb-false (thereIn log n k) k (tests .1 .1 .1 .1 .1 .1 .0) in
-    let all : thereIn log n k ≡ k = omega (arith, there-most log n k) in
+    let all : thereIn log n k ≡ k = omega arith in
     record {
       offices = not-false (between 1 32 n) (tests .1 .1 .0);
       epochs = not-false (between 1 256 k) (tests .1 .1 .1 .1 .0);
       all = all;
       leaders = rw all at (tests .1 .1 .1 .1 .1 .0);
       third = tests .1 .1 .1 .1 .1 .1 .1 .0;
-      room = omega (arith, there-most log n k, ltb-false (left log 6) (n + 9) (tests .1 .1 .1 .0));
+      room = omega (arith, ltb-false (left log 6) (n + 9) (tests .1 .1 .1 .0));
     }
 
 -- the parts of the opening that a register is opened by are those that were read
 register-parts : (log : List ℕ) (n trust : ℕ) (schedule : List ℕ) → openingRefusalIn log ≡ 0
     → fresh (countIn log) (trustIn log (countIn log)) (leadersAt log (15 + countIn log) (lengthIn log (countIn log))) ≡ fresh n trust schedule
     → Parts log n trust schedule
-unfolding openingRefusalIn fresh freshBook blank trustIn
+unfolding fresh freshBook blank
 register-parts log n trust schedule none same =
     let leaders : List ℕ = leadersAt log (15 + countIn log) (lengthIn log (countIn log)) in
     let books : freshBook (countIn log) (trustIn log (countIn log)) leaders ≡ freshBook n trust schedule =
@@ -261,7 +261,7 @@ opening-stands log n trust schedule accepts register =
 pub opening-opens : (log : List ℕ) → openingIn log .refusal ≡ 0
     → (opening (countIn log) (trustIn log (countIn log)) (leadersAt log (15 + countIn log) (lengthIn log (countIn log))) .refusal ≡ 0)
     × (openingIn log .register ≡ opening (countIn log) (trustIn log (countIn log)) (leadersAt log (15 + countIn log) (lengthIn log (countIn log))) .register)
-unfolding openingIn openedBy openingRefusalIn opening openingRefusal first choose
+unfolding openingIn openedBy opening openingRefusal first choose
 opening-opens log accepts =
     let n : ℕ = countIn log in
     let k : ℕ = lengthIn log n in

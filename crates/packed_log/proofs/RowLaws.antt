@@ -22,6 +22,11 @@ use Rattle.packed_log.specs.Items.{rowAt}
 use Rattle.packed_log.specs.Writing.{wide}
 use Rattle.register.specs.declared.step.Step.the-variants as steps
 
+infixr 5 _&_
+-- a pair, for a long chain of facts
+pub _&_ : {A B : Type 0} → A → B → A × B
+a & b = (a, b)
+
 -- the widths of a kind as the table has them: a byte for each column, the first column highest
 abbrev entry : (kind : ℕ) → ℕ
 entry kind = ((width kind 0 * 256 + width kind 1) * 256 + width kind 2) * 256 + width kind 3
@@ -124,31 +129,9 @@ Back kind = (a b c d : ℕ) → Narrow (row kind a b c d)
 -- each of the kinds of steps
 all-back : Each Back (kinds - 1) 1
 unfolding stepOf stepsOf pick rowOf kept choose width fields
-all-back = (
-  λ a b c d h. refl,
-  (
-    λ a b c d h. refl,
-    (
-      λ a b c d h. refl,
-      (
-        λ a b c d h. refl,
-        (
-          λ a b c d h. refl,
-          (
-            λ a b c d h. rw (number-kind b (omega (arith, h .second))),
-            (
-              λ a b c d h. refl,
-              (
-                λ a b c d h. refl,
-                record {},
-              ),
-            ),
-          ),
-        ),
-      ),
-    ),
-  ),
-)
+all-back =
+    (λ a b c d h. refl) & (λ a b c d h. refl) & (λ a b c d h. refl) & (λ a b c d h. refl) & (λ a b c d h. refl)
+    & (λ a b c d h. rw (number-kind b (omega (arith, h .second)))) & (λ a b c d h. refl) & (λ a b c d h. refl) & record {}
 
 pub row-step : (r : Row) → Narrow r → 0 < r .kind → r .kind < kinds → rowOf (stepOf r) ≡ r
 row-step r h low high =

@@ -38,7 +38,7 @@ itemTests log p kind =
     ∷ (both (eqb kind 0) (not (padded log (p + 4))) ⇒ 29)
     ∷ []
 
-unfoldable pub refusalAt : (log : List ℕ) → (p : ℕ) → ℕ
+abbrev pub refusalAt : (log : List ℕ) → (p : ℕ) → ℕ
 refusalAt log p = first (itemTests log p (kindAt log p))
 
 -- an item without its fields: its kind, 0 for the end and for a refusal; the refusal, 0 where there is none; and the position behind it
@@ -88,5 +88,5 @@ numbers items.End = record { refusal = 0; row = row 0 0 0 0 0 }
 numbers (items.Refused number) = record { refusal = number; row = row 0 0 0 0 0 }
 
 -- the numbers that stand at position p
-unfoldable pub numbersAt : (log : List ℕ) → (p : ℕ) → Numbers
+abbrev pub numbersAt : (log : List ℕ) → (p : ℕ) → Numbers
 numbersAt log p = record { refusal = skippedAt log p .refusal; row = rowAt log (skippedAt log p .kind) (p + 4) }

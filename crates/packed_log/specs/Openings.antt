@@ -19,7 +19,7 @@ abbrev pub countIn : (log : List ℕ) → ℕ
 countIn log = field log 0 6
 
 -- the trust word: bit q stands for office q, office 0 first
-unfoldable pub trustIn : (log : List ℕ) → (n : ℕ) → ℕ
+abbrev pub trustIn : (log : List ℕ) → (n : ℕ) → ℕ
 trustIn log n = fill 2 n (λ q. field log (6 + q) 1)
 
 -- the schedule's length
@@ -32,7 +32,7 @@ leadersAt log p zero = []
 leadersAt log p (suc k) = field log p 5 ∷ leadersAt log (p + 5) k
 
 -- of the schedule's k leaders, those that are wholly there
-unfoldable pub thereIn : (log : List ℕ) → (n k : ℕ) → ℕ
+abbrev pub thereIn : (log : List ℕ) → (n k : ℕ) → ℕ
 thereIn log n k = min k (left log (15 + n) / 5)
 
 -- 30 stands first; then the leftmost fault decides: 27 where the log ends before or inside a field, 1 at n, 2 at the schedule's length
@@ -56,7 +56,7 @@ leaderTests log n k =
 abbrev pub openingTestsIn : (log : List ℕ) → (n k : ℕ) → List Refusal
 openingTestsIn log n k = frontTests log n k ++ leaderTests log n k
 
-unfoldable pub openingRefusalIn : (log : List ℕ) → ℕ
+abbrev pub openingRefusalIn : (log : List ℕ) → ℕ
 openingRefusalIn log = first (openingTestsIn log (countIn log) (lengthIn log (countIn log)))
 
 -- a register, 0 or the refusal, and the position behind the opening

@@ -22,16 +22,10 @@ unfolding over
 laid-over-spec =
     tie.close
     (tie.spec
-    (λ c. search needs)
-    (λ c. search needs)
-    (λ c. search needs)
-    (λ c. search needs)
-    (λ c. search needs)
-    (λ c. search needs)
-    (λ c. search needs)
+    (search needs) (search needs) (search needs) (search needs) (search needs) (search needs)
+    (search needs)
     (λ c. omega (arith, fit c .high, fit c .middle, fit c .small))
-    (λ c. search needs)
-    (λ c. search needs)
+    (search needs) (search needs)
     (λ c. omega (arith, fit c .unit, fit c .some))
     add-result-2
     (λ c. rw (fit c .high, fit c .middle, fit c .unit) (refl, fit c .small)))

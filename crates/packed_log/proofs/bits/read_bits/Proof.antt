@@ -37,13 +37,8 @@ read-bits-spec =
     tie.close
     (tie.spec
     (λ c. rw (c .if1 .taken) (refl, omega arith))
-    (λ c κs. search needs)
-    (λ c. search needs)
-    (λ c. search needs)
-    (λ c. search needs)
-    (λ c. search needs)
-    (λ c. search needs)
-    (λ c. search needs)
+    (search needs) (search needs) (search needs) (search needs) (search needs) (search needs)
+    (search needs)
     rem-result
     cast-result-3
     returns-2)

@@ -10,6 +10,6 @@ unfolding both
 is-ill-ended-spec =
     tie.close
     (tie.spec
-    (λ c κs. search needs)
+    (search needs)
     (λ c. rw (eq-eqb _ 0 (c .before .if1 .taken), c .is-padded .ensures))
     (λ c. rw (ne-eqb _ 0 (c .if1 .left))))

@@ -11,7 +11,6 @@ unfolding padded both
 is-padded-spec =
     tie.close
     (tie.spec
-    (λ c κs. search needs)
-    (λ c κs. search needs)
+    (search needs) (search needs)
     (λ c. rw (c .read-bits .ensures .0, ← c .before .before .left-of .ensures, lt-ltb _ _ (c .before .if1 .taken)))
     (λ c. rw (← c .before .left-of .ensures, le-ltb _ _ (c .if1 .left))))

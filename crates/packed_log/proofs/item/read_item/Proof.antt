@@ -35,7 +35,7 @@ unfolding withFields choose
 read-item-spec =
     tie.close
     (tie.spec
-    (λ c κs. search needs)
+    (search needs)
     (λ c. item-read _ _ _ (c .before .before .skip-item .ensures) _ (rw (ne-eqb _ 0 (c .if1 .taken))))
     returns-2
     (λ c. omega (arith, step-there _ _ _ (c .before .before .before .before .skip-item .ensures) (c .if2 .left)))

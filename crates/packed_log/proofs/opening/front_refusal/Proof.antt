@@ -4,33 +4,19 @@ use Rattle.packed_log.proofs.Judging.{judging}
 use Rattle.packed_log.proofs.opening.front_refusal.Statement.{statement}
 use Rattle.packed_log.proofs.opening.front_refusal.Tie as tie
 
-returns-5 : tie.Need-returns-5
-returns-5 c =
-    rw (← c .before .before .before .before .before .before .before .read-bits .ensures .0, ← c .before .before .read-bits2 .ensures .0)
-    (search judging depth 12)
-
-returns-6 : tie.Need-returns-6
-returns-6 c =
-    rw (← c .before .before .before .before .before .before .before .read-bits .ensures .0, ← c .before .before .read-bits2 .ensures .0)
-    (search judging depth 12)
-
 pub front-refusal-spec : {M : Type 1} → statement M
 front-refusal-spec =
     tie.close
     (tie.spec
     (λ c. search judging depth 12)
-    (λ c κs. search needs)
+    (search needs)
     (λ c. search judging depth 12)
-    (λ c κs. search needs)
-    (λ c. search needs)
-    (λ c κs. search needs)
+    (search needs) (search needs) (search needs)
     (λ c. rw (← c .before .before .read-bits .ensures .0) (search judging depth 12))
-    (λ c κs. search needs)
-    (λ c. search needs)
+    (search needs) (search needs)
     (λ c. rw (← c .before .before .before .before .read-bits .ensures .0) (search judging depth 12))
-    (λ c. search needs)
-    (λ c κs. search needs)
-    (λ c. search needs)
-    (λ c κs. search needs)
-    returns-5
-    returns-6)
+    (search needs) (search needs) (search needs) (search needs)
+    (λ c. rw (← c .before .before .before .before .before .before .before .read-bits .ensures .0, ← c .before .before .read-bits2 .ensures .0)
+    (search judging depth 12))
+    (λ c. rw (← c .before .before .before .before .before .before .before .read-bits .ensures .0, ← c .before .before .read-bits2 .ensures .0)
+    (search judging depth 12)))

@@ -51,17 +51,12 @@ pub open-with-spec : {M : Type 1} → statement M
 open-with-spec =
     tie.close
     (tie.spec
-    (λ c. search needs)
-    (λ c. search needs)
-    (λ c κs. search needs)
+    (search needs) (search needs) (search needs)
     (λ c κs. (omega arith, omega arith, omega arith))
-    (λ c κs. search needs)
+    (search needs)
     (λ c. within (c .before))
     (λ c. sym (length-take-le _ _ (within (c .before .before))))
-    (λ c κs. search needs)
-    (λ c κs. search needs)
-    (λ c κs. search needs)
+    (search needs) (search needs) (search needs)
     returns
-    (λ c. search needs)
-    (λ c. search needs)
+    (search needs) (search needs)
     returns-2)

@@ -30,21 +30,15 @@ returns c =
     c .before .loop .inv .1 ∙ rw end
 
 pub read-trust-spec : {M : Type 1} → statement M
-unfolding trustIn fill
+unfolding fill
 read-trust-spec =
     tie.close
     (tie.spec
     Inv-loop
     μ-loop
     (λ c. (search needs, refl))
-    (λ c. search needs)
-    (λ c. search needs)
-    (λ c κs. search needs)
-    (λ c. search needs)
-    (λ c. search needs)
-    (λ c. search needs)
+    (search needs) (search needs) (search needs) (search needs) (search needs) (search needs)
     (λ c. omega (arith, next c .1))
-    (λ c. search needs)
-    (λ c. search needs)
+    (search needs) (search needs)
     (λ c. (search needs, next c .0))
     returns)

@@ -27,13 +27,8 @@ pub lay-opening-spec : {M : Type 1} → statement M
 lay-opening-spec =
     tie.close
     (tie.spec
-    (λ c. search needs)
-    (λ c. search needs)
-    (λ c κs. search needs)
-    (λ c κs. search needs)
-    (λ c. search needs)
-    (λ c κs. search needs)
-    (λ c. search needs)
+    (search needs) (search needs) (search needs) (search needs) (search needs) (search needs)
+    (search needs)
     write-leaders-requires
-    (λ c. search needs)
+    (search needs)
     returns)

@@ -56,13 +56,10 @@ write-leaders-spec =
     Inv-loop
     μ-loop
     loop-holds
-    (λ c. search needs)
-    (λ c. search needs)
-    (λ c. search needs)
+    (search needs) (search needs) (search needs)
     (λ c. omega (arith, small c))
     (λ c κs. (omega arith, omega (arith, long (c .before .before .before)), small c))
-    (λ c. search needs)
-    (λ c. search needs)
+    (search needs) (search needs)
     loop-again
     (λ c. long (c .before))
     returns)

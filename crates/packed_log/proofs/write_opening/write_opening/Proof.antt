@@ -79,16 +79,13 @@ pub write-opening-spec : {M : Type 1} → statement M
 write-opening-spec =
     tie.close
     (tie.spec
-    (λ c κs. search needs)
+    (search needs)
     returns
-    (λ c. search needs)
-    (λ c. search needs)
+    (search needs) (search needs)
     (λ c. omega (arith, ranges c .turns))
     (λ c. omega (arith, ranges c .turns))
-    (λ c κs. search needs)
-    (λ c. search needs)
+    (search needs) (search needs)
     returns-2
     lay-opening-requires
-    (λ c. search needs)
-    (λ c. search needs)
+    (search needs) (search needs)
     returns-3)

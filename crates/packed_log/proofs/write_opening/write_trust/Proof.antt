@@ -55,13 +55,10 @@ write-trust-spec =
     Inv-loop
     μ-loop
     loop-holds
-    (λ c. search needs)
-    (λ c. search needs)
-    (λ c κs. search needs)
+    (search needs) (search needs) (search needs)
     (λ c. omega (arith, bit c))
     (λ c κs. (omega arith, omega (arith, long (c .before .before .before)), bit c))
-    (λ c. search needs)
-    (λ c. search needs)
+    (search needs) (search needs)
     loop-again
     (λ c. long (c .before))
     returns)

@@ -11,10 +11,8 @@ unfolding rowRefused
 row-refusal-spec =
     tie.close
     (tie.spec
-    (λ c κs. search needs)
+    (search needs)
     (λ c. search judging depth 12)
-    (λ c κs. search needs)
-    (λ c κs. search needs)
-    (λ c. search needs)
+    (search needs) (search needs) (search needs)
     (λ c. rw (length-row, ← c .before .due-of .ensures .0) (search judging depth 12))
     (λ c. rw (length-row, ← c .before .due-of .ensures .0) (search judging depth 12)))

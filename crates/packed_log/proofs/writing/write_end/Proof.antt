@@ -40,11 +40,8 @@ pub write-end-spec : {M : Type 1} → statement M
 write-end-spec =
     tie.close
     (tie.spec
-    (λ c κs. search needs)
-    (λ c κs. search needs)
-    (λ c. search needs)
+    (search needs) (search needs) (search needs)
     returns
     write-bits-requires
-    (λ c. search needs)
-    (λ c. search needs)
+    (search needs) (search needs)
     returns-2)

@@ -36,19 +36,12 @@ pub write-row-spec : {M : Type 1} → statement M
 write-row-spec =
     tie.close
     (tie.spec
-    (λ c κs. search needs)
-    (λ c κs. search needs)
-    (λ c κs. search needs)
-    (λ c κs. search needs)
-    (λ c. search needs)
-    (λ c. search needs)
-    (λ c. search needs)
-    (λ c. search needs)
-    (λ c. search needs)
+    (search needs) (search needs) (search needs) (search needs) (search needs) (search needs)
+    (search needs) (search needs) (search needs)
     head-of-requires
     write-bits-requires
     (λ c κs. (search needs, search needs, search columns depth 4))
     (λ c κs. (search needs, search needs, search columns depth 4))
     (λ c κs. (search needs, search needs, search columns depth 4))
-    (λ c. search needs)
+    (search needs)
     returns)
