@@ -150,19 +150,12 @@ pub sets-right : {A : Type 0} (x y : List A) (p : ℕ) (t : List A) → sets (x 
 sets-right [] y p t = rw zero-add
 sets-right (a ∷ x) y p t = rw (suc-add, sets-cons a (x ++ y) (length x + p) t, sets-right x y p t)
 
--- the first k bits of a row, as a part of its number
-num-take : (r : List Bool) (k : ℕ) → k ≤ length r → num (take k r) ≡ num r / 2 ^ (length r - k)
-num-take r k h =
+-- the first k bits of a row, and the others, as parts of its number
+num-split : (r : List Bool) (k : ℕ) → (num (take k r) ≡ num r / 2 ^ (length r - k)) × (num (drop k r) ≡ num r % 2 ^ (length r - k))
+num-split r k =
     let rest : length (drop k r) ≡ length r - k = length-drop k r in
     let split : num r ≡ num (take k r) * 2 ^ length (drop k r) + num (drop k r) = ap num (sym (take-append-drop k r)) ∙ num-append (take k r) (drop k r) in
-    sym (rw (split, ← rest) (high (num (take k r)) (length (drop k r)) (num-lt (drop k r))))
-
--- a row without its first k bits, as a part of its number
-num-drop : (r : List Bool) (k : ℕ) → k ≤ length r → num (drop k r) ≡ num r % 2 ^ (length r - k)
-num-drop r k h =
-    let rest : length (drop k r) ≡ length r - k = length-drop k r in
-    let split : num r ≡ num (take k r) * 2 ^ length (drop k r) + num (drop k r) = ap num (sym (take-append-drop k r)) ∙ num-append (take k r) (drop k r) in
-    sym (rw (split, ← rest) (low (num (take k r)) (length (drop k r)) (num-lt (drop k r))))
+    rw (split, ← rest, high (num (take k r)) (length (drop k r)) (num-lt (drop k r)), low (num (take k r)) (length (drop k r)) (num-lt (drop k r))) (refl, refl)
 
 -- the number of a row with another laid over it
 pub num-sets : (r : List Bool) (p : ℕ) (t : List Bool) → p + length t ≤ length r → num (sets r p t) ≡ over (num r) (length r - (p + length t)) (length t) (num t)
@@ -174,8 +167,8 @@ num-sets r p t h =
     let long : length z ≡ g = length-drop (p + w) r in
     let laid : sets r p t ≡ take p r ++ (t ++ z) = rw append-assoc at (sets-eq t r p h) in
     let above : length r - p ≡ g + w = omega arith in
-    let front : num (take p r) ≡ num r / 2 ^ (g + w) = rw above at (num-take r p (omega arith)) in
+    let front : num (take p r) ≡ num r / 2 ^ (g + w) = rw above at (num-split r p .0) in
     let both : length (t ++ z) ≡ g + w = rw (length-append, long) (add-comm w g) in
     ap num laid
     ∙ num-append (take p r) (t ++ z)
-    ∙ rw (num-append t z, both, long, front, num-drop r (p + w) h) (sym (add-assoc _ _ _))
+    ∙ rw (num-append t z, both, long, front, num-split r (p + w) .1) (sym (add-assoc _ _ _))

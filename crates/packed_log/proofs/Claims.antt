@@ -19,7 +19,7 @@ use Rattle.packed_log.specs.Writing.{stepBits, endBits, wide, room, shor
 use Rattle.packed_log.specs.Logs.{Case, stepsBits, bodyBits, packed, anyWide, Filled, afterCall, afterStepCalls, afterOpeningCall, afterEndCall, afterCalls}
 use Rattle.packed_log.proofs.BitsLaws.{length-bits, length-put, put-put, put-left, put-none, bytes-bits}
 use Rattle.packed_log.proofs.Windows.{bytes-drop}
-use Rattle.packed_log.proofs.WritingLaws.{row-fits, end-fits, opening-room}
+use Rattle.packed_log.proofs.WritingLaws.{row-fits, end-room, opening-room}
 use Rattle.packed_log.proofs.LogsReadBack.{caseBits, packed-row, firstBits, log-reads, log-stands}
 use Rattle.packed_log.specs.Claims.{ReadsBack, OneForm, CallsPack}
 
@@ -77,9 +77,9 @@ steps-calls buffer t (s ∷ ss) narrow enough =
 -- the call for the end lays it
 end-call : (buffer : List ℕ) (t : List Bool) → Room buffer (t ++ endBits (length t))
     → afterEndCall (filled buffer t) ≡ filled buffer (t ++ endBits (length t))
-unfolding afterEndCall
+unfolding afterEndCall first choose
 end-call buffer t enough =
-    let none : endRefused (put buffer 0 t) (length t) ≡ 0 = end-fits (put buffer 0 t) (length t) (long-enough buffer t (endBits (length t)) enough) in
+    let none : endRefused (put buffer 0 t) (length t) ≡ 0 = end-room (put buffer 0 t) (length t) ∙ rw (long-enough buffer t (endBits (length t)) enough) in
     call buffer t (endBits (length t)) (endRefused (put buffer 0 t) (length t)) none
 
 -- a row that covers a whole buffer, laid over it, leaves just its own bytes

@@ -25,9 +25,9 @@ use Rattle.register.specs.declared.step.Step.{Step}
 use Rattle.packed_log.specs.declared.row.Row.{Row}
 use Rattle.packed_log.specs.declared.item.Item.{Item}
 use Rattle.packed_log.specs.Writing.{rowBits, stepBits, endBits, wide}
-use Rattle.packed_log.proofs.BitRows.{length-toBits, zero-bits}
-use Rattle.packed_log.proofs.WritingLaws.{length-row}
-use Rattle.packed_log.proofs.Standing.{Stands, left-stands, value-stands, value-behind, stands-field}
+use Rattle.packed_log.proofs.BitRows.{zero-bits}
+use Rattle.packed_log.proofs.WritingLaws.{length-row, length-end}
+use Rattle.packed_log.proofs.Standing.{Stands, left-stands, value-read, stands-field}
 use Rattle.packed_log.specs.declared.item.Item.the-variants as items
 
 -- what the tests of an item say where nothing is refused
@@ -178,24 +178,12 @@ row-reads log p r u room known h =
     let k : ℕ = r .kind in
     let p2 : ℕ = p + 4 + width k 0 in
     let p3 : ℕ = p2 + width k 1 in
-    let p4 : ℕ = p3 + width k 2 in
-    let from4 : List Bool = toBits (width k 3) (r .fourth) ++ u in
-    let from3 : List Bool = toBits (width k 2) (r .third) ++ from4 in
-    let from2 : List Bool = toBits (width k 1) (r .second) ++ from3 in
-    let from1 : List Bool = toBits (width k 0) (r .first) ++ from2 in
-    let at0 : Stands log p (toBits 4 k ++ from1) = simp append-assoc at h in
-    let at1 : Stands log (p + 4) from1 = value-behind log p 4 k from1 at0 in
-    let at2 : Stands log p2 from2 = value-behind log (p + 4) (width k 0) (r .first) from2 at1 in
-    let at3 : Stands log p3 from3 = value-behind log p2 (width k 1) (r .second) from3 at2 in
-    let at4 : Stands log p4 from4 = value-behind log p3 (width k 2) (r .third) from4 at3 in (
-      value-stands log p 4 k from1 at0 (omega arith),
-      rw (
-        value-stands log (p + 4) (width k 0) (r .first) from2 at1 (room .first),
-        value-stands log p2 (width k 1) (r .second) from3 at2 (room .second),
-        value-stands log p3 (width k 2) (r .third) from4 at3 (room .third),
-        value-stands log p4 (width k 3) (r .fourth) u at4 (room .fourth),
-      ),
-    )
+    let kind = value-read log p 4 k _ (omega arith) (simp append-assoc at h) in
+    let first = value-read log (p + 4) (width k 0) (r .first) _ (room .first) (kind .behind) in
+    let second = value-read log p2 (width k 1) (r .second) _ (room .second) (first .behind) in
+    let third = value-read log p3 (width k 2) (r .third) _ (room .third) (second .behind) in
+    let fourth = value-read log (p3 + width k 2) (width k 3) (r .fourth) u (room .fourth) (third .behind) in
+    (kind .value, rw (first .value, second .value, third .value, fourth .value))
 
 -- a step that stands at a position, within the widths, is read there
 pub step-reads : (log : List ℕ) (p : ℕ) (s : Step) (u : List Bool) → length log ≤ 65536 → wide (rowOf s) ≡ false
@@ -229,20 +217,18 @@ end-fields p = rw (append-nil, zero-bits (pad p))
 pub end-reads : (log : List ℕ) (p : ℕ) → length log ≤ 65536 → Stands log p (endBits p) → itemAt log p ≡ read items.End (8 * length log)
 unfolding padded both width fields
 end-reads log p small h =
-    let zeros : List Bool = toBits (pad p) 0 ++ [] in
-    let whole : Stands log p (toBits 4 0 ++ zeros) = h ∙ end-fields p in
-    let rest : Stands log (p + 4) zeros = value-behind log p 4 0 zeros whole in
-    let none : kindAt log p ≡ 0 = value-stands log p 4 0 zeros whole (omega arith) in
-    let all : 8 * length log - p ≡ 4 + pad p = left-stands log p _ whole ∙ simp (length-append, length-toBits) (omega arith) in
+    let kind = value-read log p 4 0 _ (omega arith) (h ∙ end-fields p) in
+    let zeros = value-read log (p + 4) (pad p) 0 [] (pow-pos (pad p)) (kind .behind) in
+    let none : kindAt log p ≡ 0 = kind .value in
+    let all : 8 * length log - p ≡ 4 + pad p = left-stands log p _ h ∙ length-end p in
     let behind : 8 * length log - (p + 4) ≡ pad p = omega arith in
-    let blank : field log (p + 4) (pad p) ≡ 0 = value-stands log (p + 4) (pad p) 0 [] rest (pow-pos (pad p)) in
     end-item log p
     (record {
       small = small;
       head = omega arith;
       known = rw none (omega arith);
       fields = rw none (omega arith);
-      pad = λ _. rw (behind, lt-ltb (pad p) 8 (omega arith), blank);
+      pad = λ _. rw (behind, lt-ltb (pad p) 8 (omega arith), zeros .value);
     })
     none
 

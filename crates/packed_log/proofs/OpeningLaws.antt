@@ -19,7 +19,6 @@ use Rattle.packed_log.specs.Bits.{field}
 use Rattle.packed_log.specs.Openings.{trustIn, leadersAt, countIn, lengthIn, thereIn, frontTests, leaderTests, openingTestsIn, opened, openedBy, openingIn}
 use Rattle.packed_log.proofs.BitsLaws.{field-lt}
 use Rattle.words.specs.Refusals.{_⇒_, first}
-use Rattle.register.specs.declared.table.Register.{Register}
 use Rattle.register.specs.declared.table.Opened.{Opened}
 use Rattle.register.specs.Opening.{fresh, closed, opening}
 use Rattle.packed_log.specs.Items.{left}
@@ -111,35 +110,17 @@ led n trust k schedule low high some most =
     let offices : between 1 32 n ≡ true = between-make 1 32 n (low, high) in
     rw offices (by-tests (between 1 256 (length schedule)) (stray n schedule) (ltb (length schedule) k) (tooMany (untrusted n trust) n) (empty n k schedule most some))
 
--- one case of `told-none`
-none : (three cut : Bool) (there k refusal : ℕ) → ltb there k ≡ cut → choose three 3 (choose cut 27 refusal) ≡ 0 → (k ≤ there) × (refusal ≡ 0)
+-- where the leaders are not refused, none is missing, and opening them is not refused
+told-none : (three cut : Bool) (refusal : ℕ) → choose three 3 (choose cut 27 refusal) ≡ 0 → (cut ≡ false) × (refusal ≡ 0)
 unfolding choose
-none true cut there k refusal e h = absurd (omega arith)
-none false true there k refusal e h = absurd (omega arith)
-none false false there k refusal e h = (ltb-false there k e, h)
-
--- where the leaders are not refused, all are there, and opening them is not refused
-told-none : (there k refusal : ℕ) → choose (eqb refusal 3) 3 (choose (ltb there k) 27 refusal) ≡ 0 → (k ≤ there) × (refusal ≡ 0)
-told-none there k refusal h = none (eqb refusal 3) (ltb there k) there k refusal refl h
-
--- an opening that is not refused gives the fresh register
-opened-register : (n trust : ℕ) (schedule : List ℕ) (o : Opened) → o ≡ opening n trust schedule → o .refusal ≡ 0
-    → o .register ≡ fresh n trust schedule
-unfolding opening choose
-opened-register n trust schedule o opens none =
-    let clear : openingRefusal n trust schedule ≡ 0 = sym (ap (λ (x : Opened). x .refusal) opens) ∙ none in
-    ap (λ (x : Opened). x .register) opens ∙ rw clear
+told-none true cut refusal h = absurd (omega arith)
+told-none false true refusal h = absurd (omega arith)
+told-none false false refusal h = (refl, h)
 
 -- a refused opening
 opened-refused : (log : List ℕ) (n k refusal : ℕ) → (refusal ≡ 0 → ⊥) → opened closed refusal 0 ≡ openedBy log n k refusal
 unfolding openedBy choose
 opened-refused log n k refusal some = rw (ne-eqb refusal 0 some)
-
--- an opening that is not
-opened-whole : (log : List ℕ) (n k refusal : ℕ) (r : Register) → refusal ≡ 0 → r ≡ fresh n (trustIn log n) (leadersAt log (15 + n) k)
-    → opened r refusal (15 + n + 5 * k) ≡ openedBy log n k refusal
-unfolding openedBy choose
-opened-whole log n k refusal r none held = rw (held, none)
 
 -- n offices and k leaders in their ranges; the leaders that are there have been opened, and the refusal of all was told from that
 module _ (log : List ℕ) (n k : ℕ) (low : 1 ≤ n) (high : n ≤ 32) (some : 1 ≤ k) (most : k ≤ 256)
@@ -161,11 +142,13 @@ module _ (log : List ℕ) (n k : ℕ) (low : 1 ≤ n) (high : n ≤ 32) (some : 
 
     -- none is
     pub leaders-opened : refusal ≡ 0 → opened (o .register) refusal (15 + n + 5 * k) ≡ openedBy log n k (first (leaderTests log n k))
+    unfolding openedBy opening choose
     leaders-opened good =
-        let clear : (k ≤ there) × (o .refusal ≡ 0) = told-none there k (o .refusal) (sym told ∙ good) in
-        let all : there ≡ k = omega arith in
-        let held : o .register ≡ fresh n (trustIn log n) (leadersAt log (15 + n) k) = rw (← all) (opened-register n (trustIn log n) (leadersAt log (15 + n) there) o opens (clear .1)) in
-        opened-whole log n k refusal (o .register) good held ∙ ap (openedBy log n k) same
+        let clear : (ltb there k ≡ false) × (o .refusal ≡ 0) = told-none (eqb (o .refusal) 3) (ltb there k) (o .refusal) (sym told ∙ good) in
+        let all : there ≡ k = omega (arith, ltb-false there k (clear .0)) in
+        let opening-clear : openingRefusal n (trustIn log n) (leadersAt log (15 + n) there) ≡ 0 = sym (ap (λ (x : Opened). x .refusal) opens) ∙ clear .1 in
+        let held : o .register ≡ fresh n (trustIn log n) (leadersAt log (15 + n) k) = rw (← all) (ap (λ (x : Opened). x .register) opens ∙ rw opening-clear) in
+        rw (← same, good, held)
 
 -- what holds where nothing is refused up to the schedule's length
 pub record Front (log : List ℕ) (n k : ℕ) : Type 0 where

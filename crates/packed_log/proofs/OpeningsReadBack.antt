@@ -1,7 +1,7 @@
 -- Openings: one that stands at a log's start is read there, and what is read there stands there.
 use Prim.Native.Nat.{ℕ, zero, suc, _+_, _*_, _-_, _≤_, _<_}
 use mathlib.Core.Path.{_≡_, refl, sym, ap, _∙_}
-use mathlib.Core.Bool.{Bool, false, true}
+use mathlib.Core.Bool.{Bool, true}
 use mathlib.Core.List.{List, [], _∷_, _++_, append-assoc}
 use native.Mathlib.Nat.{add-zero}
 use native.Mathlib.Omega.{arith}
@@ -9,7 +9,7 @@ use borrow.Author.Tests.{ltb-false, le-ltb, not-false}
 use lib.Dec.{eqb, eqb·suc-zero}
 use lib.ListN.{length, getD, take, drop, length-append}
 use lib.Seq.{take-at}
-use Rattle.quorum.specs.Opening.{untrusted, tooMany, stray, openingRefusal}
+use Rattle.quorum.specs.Opening.{untrusted, openingRefusal}
 use Rattle.words.specs.Tests.{choose, both, between}
 use Rattle.words.specs.Digits.{digit, fill}
 use Rattle.words.proofs.Digits.{digit-lt, digit-fill, fill-ext}
@@ -29,7 +29,7 @@ use Rattle.packed_log.proofs.BitRows.{bit-row}
 use Rattle.packed_log.proofs.BitsLaws.{field-lt}
 use Rattle.packed_log.proofs.WritingLaws.{length-trust, length-leaders, length-opening}
 use Rattle.packed_log.proofs.OpeningLaws.{Accepted, accepted, length-leadersAt}
-use Rattle.packed_log.proofs.Standing.{Stands, left-stands, stands-behind, value-stands, value-behind, stands-field}
+use Rattle.packed_log.proofs.Standing.{Stands, left-stands, stands-behind, value-read, stands-field}
 
 -- trust bits that stand at a position are read there
 trust-reads : (log : List ℕ) (p n trust : ℕ) (u : List Bool) → Stands log p (trustBits n trust ++ u)
@@ -41,7 +41,7 @@ trust-reads log p (suc n) trust u h =
     let small : d < 2 = digit-lt 2 trust n (omega arith) in
     let stands : Stands log p (trustBits n trust ++ (toBits 1 d ++ u)) = rw bit-row (rw append-assoc at h) in
     let behind : Stands log (p + n) (toBits 1 d ++ u) = rw length-trust at (stands-behind log p (trustBits n trust) _ stands) in
-    rw (trust-reads log p n trust _ stands, value-stands log (p + n) 1 d u behind small)
+    rw (trust-reads log p n trust _ stands, value-read log (p + n) 1 d u small behind .value)
 
 -- where words are filled alike, the bits that fill the one are the digits that fill the other
 word-digit : (log : List ℕ) (p n trust : ℕ) → fill 2 n (λ q. field log (p + q) 1) ≡ fill 2 n (digit 2 trust)
@@ -70,10 +70,8 @@ leaders-read : (log : List ℕ) (p : ℕ) (schedule : List ℕ) (u : List Bool) 
 unfolding leadersAt leaderBits
 leaders-read log p [] u small h = refl
 leaders-read log p (q ∷ schedule) u small h =
-    let stands : Stands log p (toBits 5 q ++ (leaderBits schedule ++ u)) = rw append-assoc at h in
-    let behind : Stands log (p + 5) (leaderBits schedule ++ u) = value-behind log p 5 q _ stands in
-    let rest : leadersAt log (p + 5) (length schedule) ≡ schedule = leaders-read log (p + 5) schedule u (λ i l. small (suc i) (omega arith)) behind in
-    rw (value-stands log p 5 q _ stands (small 0 (omega arith)), rest)
+    let first = value-read log p 5 q _ (small 0 (omega arith)) (rw append-assoc at h) in
+    rw (first .value, leaders-read log (p + 5) schedule u (λ i l. small (suc i) (omega arith)) (first .behind))
 
 -- leaders that are read stand there
 leaders-stand : (log : List ℕ) (p k : ℕ) → p + 5 * k ≤ 8 * length log
@@ -112,18 +110,16 @@ parts-read log n trust schedule u tests h =
     let k : ℕ = length schedule in
     let offices : (1 ≤ n) × (n ≤ 32) = tests .count in
     let epochs : (1 ≤ k) × (k ≤ 256) = tests .turns in
-    let from-length : List Bool = toBits 9 k ++ (leaderBits schedule ++ u) in
-    let from-trust : List Bool = trustBits n trust ++ from-length in
-    let at-start : Stands log 0 (toBits 6 n ++ from-trust) = simp append-assoc at h in
-    let at-trust : Stands log 6 from-trust = value-behind log 0 6 n from-trust at-start in
-    let at-length : Stands log (6 + n) from-length = rw length-trust at (stands-behind log 6 (trustBits n trust) from-length at-trust) in
+    let count = value-read log 0 6 n _ (omega arith) (simp append-assoc at h) in
+    let at-length = rw length-trust at (stands-behind log 6 (trustBits n trust) _ (count .behind)) in
+    let turns = value-read log (6 + n) 9 k _ (omega arith) at-length in
     let behind : 6 + n + 9 ≡ 15 + n = omega arith in
-    let at-leaders : Stands log (15 + n) (leaderBits schedule ++ u) = rw behind at (value-behind log (6 + n) 9 k _ at-length) in
+    let at-leaders : Stands log (15 + n) (leaderBits schedule ++ u) = rw behind at (turns .behind) in
     let rest : 8 * length log - (15 + n) ≡ 5 * k + length u = left-stands log (15 + n) _ at-leaders ∙ simp (length-append, length-leaders) in
     record {
-      count = value-stands log 0 6 n from-trust at-start (omega arith);
-      word = trust-reads log 6 n trust from-length at-trust;
-      epochs = value-stands log (6 + n) 9 k _ at-length (omega arith);
+      count = count .value;
+      word = trust-reads log 6 n trust _ (count .behind);
+      epochs = turns .value;
       leaders = leaders-read log (15 + n) schedule u (λ i l. omega (arith, tests .leader i l)) at-leaders;
       room = omega arith;
     }
@@ -199,29 +195,18 @@ same-schedule : (s t : List ℕ) → length s ≡ length t → leaderTable s ≡
 unfolding leaderTable
 same-schedule s t long h = sym (take-at s _ (length t) long) ∙ ap (take (length t)) h ∙ take-at t _ (length t) refl
 
--- what the tests of an opening that is read say where nothing is refused
-record Fine (log : List ℕ) (n k : ℕ) : Type 0 where
-  offices : between 1 32 n ≡ true
-  epochs : between 1 256 k ≡ true
-  all : thereIn log n k ≡ k
-  leaders : stray n (leadersAt log (15 + n) k) ≡ false
-  third : tooMany (untrusted n (trustIn log n)) n ≡ false
-  room : 15 + n + 5 * k ≤ 8 * length log
-
-fine : (log : List ℕ) (n k : ℕ) → first (openingTestsIn log n k) ≡ 0 → Fine log n k
-unfolding Clear positive both
+-- where the tests of an opening that is read refuse nothing, its parts open a register, and all of them are there
+fine : (log : List ℕ) (n k : ℕ) → first (openingTestsIn log n k) ≡ 0
+    → (openingRefusal n (trustIn log n) (leadersAt log (15 + n) k) ≡ 0) × (15 + n + 5 * k ≤ 8 * length log)
+unfolding openingRefusal first choose Clear positive both
 fine log n k h =
     let tests : Clear (openingTestsIn log n k) = first-clear (openingTestsIn log n k) refl h in
+    let offices : between 1 32 n ≡ true = not-false (between 1 32 n) (tests .1 .1 .0) in
+    let there : n + 9 ≤ left log 6 = ltb-false (left log 6) (n + 9) (tests .1 .1 .1 .0) in
+    let epochs : between 1 256 k ≡ true = not-false (between 1 256 k) (tests .1 .1 .1 .1 .0) in
     let most : k ≤ thereIn log n k = ltb-false (thereIn log n k) k (tests .1 .1 .1 .1 .1 .1 .0) in
     let all : thereIn log n k ≡ k = omega arith in
-    record {
-      offices = not-false (between 1 32 n) (tests .1 .1 .0);
-      epochs = not-false (between 1 256 k) (tests .1 .1 .1 .1 .0);
-      all = all;
-      leaders = rw all at (tests .1 .1 .1 .1 .1 .0);
-      third = tests .1 .1 .1 .1 .1 .1 .1 .0;
-      room = omega (arith, ltb-false (left log 6) (n + 9) (tests .1 .1 .1 .0));
-    }
+    (rw (offices, length-leadersAt, epochs, rw all at (tests .1 .1 .1 .1 .1 .0), tests .1 .1 .1 .1 .1 .1 .1 .0), omega arith)
 
 -- the parts of the opening that a register is opened by are those that were read
 register-parts : (log : List ℕ) (n trust : ℕ) (schedule : List ℕ) → openingRefusalIn log ≡ 0
@@ -242,7 +227,7 @@ register-parts log n trust schedule none same =
       word = sym (fill-again n (λ q. field log (6 + q) 1) (λ q. field-lt log (6 + q) 1)) ∙ word;
       epochs = epochs;
       leaders = rw (count, epochs) at (same-schedule leaders schedule long table);
-      room = rw (count, epochs) at (fine log (countIn log) (lengthIn log (countIn log)) none .room);
+      room = rw (count, epochs) at (fine log (countIn log) (lengthIn log (countIn log)) none .1);
     }
 
 -- the opening that is read at the log's start stands there, up to the position behind it
@@ -261,12 +246,8 @@ opening-stands log n trust schedule accepts register =
 pub opening-opens : (log : List ℕ) → openingIn log .refusal ≡ 0
     → (opening (countIn log) (trustIn log (countIn log)) (leadersAt log (15 + countIn log) (lengthIn log (countIn log))) .refusal ≡ 0)
     × (openingIn log .register ≡ opening (countIn log) (trustIn log (countIn log)) (leadersAt log (15 + countIn log) (lengthIn log (countIn log))) .register)
-unfolding openingIn openedBy opening openingRefusal first choose
+unfolding openingIn openedBy opening choose
 opening-opens log accepts =
-    let n : ℕ = countIn log in
-    let k : ℕ = lengthIn log n in
     let none : openingRefusalIn log ≡ 0 = opened-refusal _ _ (openingRefusalIn log) _ accepts in
-    let good : Fine log n k = fine log n k none in
-    let opens : openingRefusal n (trustIn log n) (leadersAt log (15 + n) k) ≡ 0 =
-    rw (good .offices, length-leadersAt log (15 + n) k, good .epochs, good .leaders, good .third) in
+    let opens = fine log (countIn log) (lengthIn log (countIn log)) none .0 in
     (opens, rw (none, opens))

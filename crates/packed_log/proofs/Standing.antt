@@ -29,14 +29,17 @@ module _ (log : List ℕ) (p : ℕ) (t u : List Bool) (stands : Stands log p (t 
   pub stands-behind : Stands log (p + length t) u
   stands-behind = rw (← drop-drop (length t) p (bits log), stands, drop-at t u (length t) refl)
 
-module _ (log : List ℕ) (p w v : ℕ) (u : List Bool) (stands : Stands log p (toBits w v ++ u)) where
-  -- a number with room in w bits is read where these stand
-  pub value-stands : v < 2 ^ w → field log p w ≡ v
-  value-stands room = rw (length-toBits, num-toBits w v room) at (field-stands log p (toBits w v) u stands)
+-- where the bits of a number stand, which has room in them, it is read, and what is behind them stands behind
+pub record Value (log : List ℕ) (p w v : ℕ) (u : List Bool) : Type 0 where
+  pub value : field log p w ≡ v
+  pub behind : Stands log (p + w) u
 
-  -- what stands behind the bits of a number
-  pub value-behind : Stands log (p + w) u
-  value-behind = rw length-toBits at (stands-behind log p (toBits w v) u stands)
+pub value-read : (log : List ℕ) (p w v : ℕ) (u : List Bool) → v < 2 ^ w → Stands log p (toBits w v ++ u) → Value log p w v u
+value-read log p w v u room stands =
+    record {
+      value = rw (length-toBits, num-toBits w v room) at (field-stands log p (toBits w v) u stands);
+      behind = rw length-toBits at (stands-behind log p (toBits w v) u stands);
+    }
 
 -- where the log has w bits from position p on, those of the field stand there
 pub stands-field : (log : List ℕ) (p w : ℕ) → p + w ≤ 8 * length log → Stands log p (toBits w (field log p w) ++ drop (p + w) (bits log))

@@ -13,6 +13,7 @@ use lib.Pow.{pow-add, pow-mono}
 use Rattle.words.specs.Tests.{choose, both, either}
 use Rattle.words.specs.Refusals.{_⇒_, first, Refusal}
 use Rattle.words.proofs.Tests.{or-either}
+use Rattle.words.proofs.Turns.{hit, skip, none as nothing}
 use Rattle.words.proofs.Refusals.{positive, Clear, first-clear, first-before, first-behind}
 use Rattle.packed_log.specs.declared.row.Row.{Row}
 use Rattle.packed_log.specs.declared.writing.Wrote.{Wrote}
@@ -23,6 +24,7 @@ use Rattle.packed_log.specs.Writing.{trustBits, leaderBits, openingBits,
 use Rattle.packed_log.proofs.BitRows.{length-toBits, zero-bits, join-bits, bit-row}
 use Rattle.packed_log.proofs.BitsLaws.{put-put}
 use Rattle.packed_log.proofs.RowLaws.{narrow}
+use Rattle.packed_log.proofs.Judging.{counts-less, counts-most}
 use lib.Seq.{length-take-le, take-suc}
 use Rattle.quorum.specs.Opening.{openingTests, openingRefusal}
 use Rattle.words.specs.Digits.{digit}
@@ -133,8 +135,8 @@ end-zero p w e =
     rw (e, length-end p, zero-bits (4 + k), zero-bits 4) (sym (replicate-append 4 k false))
 
 -- what has room ends within the buffer, at a position below 2^64
-pub has-room : (l : List ℕ) (p size : ℕ) → 0 < size → size ≤ room l p → HasRoom l p size
-has-room l p size some h = (omega (arith, min-le-left (length l) (2 ^ 61 - 1)), omega (arith, min-le-right (length l) (2 ^ 61 - 1)))
+pub has-room : (l : List ℕ) (p size left : ℕ) → 0 < size → left ≡ room l p → size ≤ left → HasRoom l p size
+has-room l p size left some measured h = (omega (arith, min-le-left (length l) (2 ^ 61 - 1)), omega (arith, min-le-right (length l) (2 ^ 61 - 1)))
 
 -- what the tests of a row say where nothing is refused
 pub row-clear : (l : List ℕ) (p : ℕ) (r : Row) → rowRefused l p r ≡ 0 → Narrow r × HasRoom l p (4 + due (r .kind))
@@ -142,17 +144,17 @@ unfolding rowRefused Clear positive both
 row-clear l p r none =
     let tests : Clear ((wide r ⇒ 9) ∷ (short l p (rowBits r) ⇒ 31) ∷ []) = first-clear _ refl none in
     let enough : length (rowBits r) ≤ room l p = ltb-false (room l p) (length (rowBits r)) (tests .1 .0) in
-    (narrow r (tests .0), has-room l p (4 + due (r .kind)) (omega arith) (rw length-row at enough))
+    (narrow r (tests .0), has-room l p (4 + due (r .kind)) _ (omega arith) refl (rw length-row at enough))
 
 -- a row that is not too wide and has room is not refused
 pub row-fits : (l : List ℕ) (p : ℕ) (r : Row) → wide r ≡ false → short l p (rowBits r) ≡ false → rowRefused l p r ≡ 0
 unfolding rowRefused first choose
 row-fits l p r slim enough = rw (slim, enough)
 
--- nor is an end that has room
-pub end-fits : (l : List ℕ) (p : ℕ) → short l p (endBits p) ≡ false → endRefused l p ≡ 0
-unfolding endRefused first choose
-end-fits l p enough = rw enough
+-- only the buffer refuses the end
+pub end-room : (l : List ℕ) (p : ℕ) → endRefused l p ≡ first ((short l p (endBits p) ⇒ 31) ∷ [])
+unfolding endRefused
+end-room l p = refl
 
 -- what a call of the writer promises: its answer, and the buffer after it
 abbrev Promised : (l m : List ℕ) → (answer : Wrote) → (refusal p : ℕ) → List Bool → Type 0
@@ -169,12 +171,26 @@ pub call-laid : (l m : List ℕ) (p next k refusal : ℕ) (t : List Bool) → k 
 unfolding wrote laid choose
 call-laid l m p next k refusal t e none behind h = rw (← e, none, behind) (refl, h)
 
+-- a call that only the buffer can refuse, with 31: the bits that it is to lay have been counted, and the room has been measured
+module _ (l : List ℕ) (p size left refusal : ℕ) (t : List Bool) (counted : size ≡ length t) (measured : left ≡ room l p)
+    (told : refusal ≡ first ((short l p t ⇒ 31) ∷ []))
+  where
+    -- the buffer is too short
+    pub call-short : left < size → Promised l l (record { refusal = 31; next = p }) refusal p t
+    call-short full = call-refused l p 31 refusal t (hit _ 31 [] (counts-less left size _ _ measured counted full) ∙ sym told) (omega arith)
+
+    -- it is long enough
+    pub call-fits : (m : List ℕ) → size ≤ left → m ≡ put l p t → Promised l m (record { refusal = 0; next = p + size }) refusal p t
+    call-fits m enough h =
+        let none : 0 ≡ refusal = skip _ 0 31 [] (counts-most left size _ _ measured counted enough) nothing ∙ sym told in
+        call-laid l m p (p + size) 0 refusal t none refl (rw counted) h
+
 -- a loop's next turn: the trust bits of the offices below q are laid, and now that of office q
-pub next-trust-bit : (l m : List ℕ) (p q trust d : ℕ) → m ≡ put l p (trustBits q trust) → d ≡ digit 2 trust q
-    → put m (p + q) (toBits 1 d) ≡ put l p (trustBits (q + 1) trust)
+pub next-trust-bit : (l m m′ : List ℕ) (p q trust d : ℕ) → m ≡ put l p (trustBits q trust) → d ≡ digit 2 trust q
+    → m′ ≡ put m (p + q) (toBits 1 d) → m′ ≡ put l p (trustBits (q + 1) trust)
 unfolding trustBits
-next-trust-bit l m p q trust d before e =
-    rw (before, e, add-one, ← bit-row (digit 2 trust q) (digit-lt 2 trust q (omega arith)))
+next-trust-bit l m m′ p q trust d before e written =
+    written ∙ rw (before, e, add-one, ← bit-row (digit 2 trust q) (digit-lt 2 trust q (omega arith)))
     (put-next l p (trustBits q trust) (toBits 1 (digit 2 trust q)) (p + q) (rw length-trust))
 
 -- the bits of a schedule with one leader more
@@ -184,11 +200,11 @@ leaders-snoc [] q = append-nil (toBits 5 q)
 leaders-snoc (x ∷ schedule) q = rw (leaders-snoc schedule q, append-assoc)
 
 -- a loop's next turn: the first i leaders are laid, and now the next
-pub next-leader-bits : (l m : List ℕ) (p i : ℕ) (schedule : List ℕ) → i < length schedule → m ≡ put l p (leaderBits (take i schedule))
-    → put m (p + 5 * i) (toBits 5 (getD schedule i 0)) ≡ put l p (leaderBits (take (i + 1) schedule))
-next-leader-bits l m p i schedule h before =
+pub next-leader-bits : (l m m′ : List ℕ) (p i : ℕ) (schedule : List ℕ) → i < length schedule → m ≡ put l p (leaderBits (take i schedule))
+    → m′ ≡ put m (p + 5 * i) (toBits 5 (getD schedule i 0)) → m′ ≡ put l p (leaderBits (take (i + 1) schedule))
+next-leader-bits l m m′ p i schedule h before written =
     let long : length (leaderBits (take i schedule)) ≡ 5 * i = rw (length-leaders, length-take-le i schedule (omega arith)) in
-    rw (before, add-one, take-suc schedule i 0 h, leaders-snoc)
+    written ∙ rw (before, add-one, take-suc schedule i 0 h, leaders-snoc)
     (put-next l p (leaderBits (take i schedule)) (toBits 5 (getD schedule i 0)) (p + 5 * i) (rw long))
 
 -- n, the trust bits, the length and the leaders, laid one behind the other, are the opening

@@ -20,8 +20,7 @@ add-result-2 c =
 pub laid-over-spec : {M : Type 1} → statement M
 unfolding over
 laid-over-spec =
-    tie.close
-    (tie.spec
+    tie.close (tie.spec
     (search needs) (search needs) (search needs) (search needs) (search needs) (search needs)
     (search needs)
     (λ c. omega (arith, fit c .high, fit c .middle, fit c .small))

@@ -34,8 +34,7 @@ returns-2 c =
 pub read-bits-spec : {M : Type 1} → statement M
 unfolding field num
 read-bits-spec =
-    tie.close
-    (tie.spec
+    tie.close (tie.spec
     (λ c. rw (c .if1 .taken) (refl, omega arith))
     (search needs) (search needs) (search needs) (search needs) (search needs) (search needs)
     (search needs)

@@ -25,8 +25,7 @@ returns-2 c =
 
 pub write-bits-spec : {M : Type 1} → statement M
 write-bits-spec =
-    tie.close
-    (tie.spec
+    tie.close (tie.spec
     returns
     (search needs) (search needs) (search needs) (search needs) (search needs)
     returns-2)

@@ -8,8 +8,7 @@ use Rattle.packed_log.proofs.item.is_ill_ended.Tie as tie
 pub is-ill-ended-spec : {M : Type 1} → statement M
 unfolding both
 is-ill-ended-spec =
-    tie.close
-    (tie.spec
+    tie.close (tie.spec
     (search needs)
     (λ c. rw (eq-eqb _ 0 (c .before .if1 .taken), c .is-padded .ensures))
     (λ c. rw (ne-eqb _ 0 (c .if1 .left))))

@@ -33,8 +33,7 @@ returns-3 c =
 pub read-item-spec : {M : Type 1} → statement M
 unfolding withFields choose
 read-item-spec =
-    tie.close
-    (tie.spec
+    tie.close (tie.spec
     (search needs)
     (λ c. item-read _ _ _ (c .before .before .skip-item .ensures) _ (rw (ne-eqb _ 0 (c .if1 .taken))))
     returns-2

@@ -7,8 +7,7 @@ use Rattle.packed_log.proofs.item.read_row.Tie as tie
 pub read-row-spec : {M : Type 1} → statement M
 unfolding rowAt
 read-row-spec =
-    tie.close
-    (tie.spec
+    tie.close (tie.spec
     (search needs) (search needs) (search needs) (search needs) (search needs) (search needs)
     (search needs) (search needs) (search needs) (search needs) (search needs)
     (λ c. cc))

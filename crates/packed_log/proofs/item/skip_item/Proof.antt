@@ -18,8 +18,7 @@ none c = search judging depth 12
 
 pub skip-item-spec : {M : Type 1} → statement M
 skip-item-spec =
-    tie.close
-    (tie.spec
+    tie.close (tie.spec
     (search needs)
     (λ c. search skipping depth 12)
     (search needs) (search needs)

@@ -6,8 +6,7 @@ use Rattle.packed_log.proofs.opening.front_refusal.Tie as tie
 
 pub front-refusal-spec : {M : Type 1} → statement M
 front-refusal-spec =
-    tie.close
-    (tie.spec
+    tie.close (tie.spec
     (λ c. search judging depth 12)
     (search needs)
     (λ c. search judging depth 12)

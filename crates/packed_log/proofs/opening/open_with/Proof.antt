@@ -49,8 +49,7 @@ returns-2 c =
 
 pub open-with-spec : {M : Type 1} → statement M
 open-with-spec =
-    tie.close
-    (tie.spec
+    tie.close (tie.spec
     (search needs) (search needs) (search needs)
     (λ c κs. (omega arith, omega arith, omega arith))
     (search needs)

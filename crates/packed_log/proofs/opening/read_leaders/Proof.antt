@@ -33,10 +33,7 @@ returns c =
 pub read-leaders-spec : {M : Type 1} → statement M
 unfolding leadersAt
 read-leaders-spec =
-    tie.close
-    (tie.spec
-    Inv-loop
-    μ-loop
+    tie.close (tie.spec Inv-loop μ-loop
     (λ c. (search needs, refl, refl))
     (search needs) (search needs) (search needs) (search needs) (search needs) (search needs)
     (search needs)

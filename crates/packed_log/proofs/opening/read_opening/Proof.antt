@@ -30,8 +30,7 @@ open-with-requires c κs =
 
 pub read-opening-spec : {M : Type 1} → statement M
 read-opening-spec =
-    tie.close
-    (tie.spec
+    tie.close (tie.spec
     (search needs) (search needs)
     (λ c. c .refused .ensures ∙ front-refused _ _ _ refl refl _ (c .before .before .front-refusal .ensures) (c .before .if1 .taken))
     (λ c κs. (omega arith, omega (arith, front c .there), front c .small))

@@ -32,10 +32,7 @@ returns c =
 pub read-trust-spec : {M : Type 1} → statement M
 unfolding fill
 read-trust-spec =
-    tie.close
-    (tie.spec
-    Inv-loop
-    μ-loop
+    tie.close (tie.spec Inv-loop μ-loop
     (λ c. (search needs, refl))
     (search needs) (search needs) (search needs) (search needs) (search needs) (search needs)
     (λ c. omega (arith, next c .1))

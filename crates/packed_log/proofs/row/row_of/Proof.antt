@@ -8,8 +8,7 @@ use Rattle.packed_log.proofs.row.row_of.Tie as tie
 pub row-of-spec : {M : Type 1} → statement M
 unfolding rowOf
 row-of-spec =
-    tie.close
-    (tie.spec
+    tie.close (tie.spec
     (search needs) (search needs) (search needs) (search needs) (search needs) (search needs)
     (search needs) (search needs) (search needs) (search needs) (search needs) (search needs)
     (search needs) (search needs) (search needs) (search needs) (search needs) (search needs)

@@ -12,8 +12,7 @@ use Rattle.packed_log.proofs.row.step_of.Tie as tie
 pub step-of-spec : {M : Type 1} → statement M
 unfolding pick stepsOf choose width fields Other
 step-of-spec =
-    tie.close
-    (tie.spec
+    tie.close (tie.spec
     (λ c. search arms depth 6) (λ c. search arms depth 6) (λ c. search arms depth 6) (λ c. search arms depth 6)
     (λ c. search arms depth 6) (λ c. search arms depth 6) (λ c. search arms depth 6) (λ c. search arms depth 6)
     (search needs)

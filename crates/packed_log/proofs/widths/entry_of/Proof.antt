@@ -10,8 +10,7 @@ use Rattle.packed_log.proofs.widths.entry_of.Tie as tie
 pub entry-of-spec : {M : Type 1} → statement M
 unfolding width fields Other
 entry-of-spec =
-    tie.close
-    (tie.spec
+    tie.close (tie.spec
     (search needs) (search needs) (search needs) (search needs) (search needs) (search needs)
     (search needs) (search needs) (search needs)
     (λ c. rw (c .match .keys1))

@@ -25,8 +25,7 @@ returns c =
 
 pub lay-opening-spec : {M : Type 1} → statement M
 lay-opening-spec =
-    tie.close
-    (tie.spec
+    tie.close (tie.spec
     (search needs) (search needs) (search needs) (search needs) (search needs) (search needs)
     (search needs)
     write-leaders-requires

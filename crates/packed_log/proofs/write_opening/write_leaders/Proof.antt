@@ -5,7 +5,7 @@ use mathlib.Core.Path.{_≡_, sym, ap, _∙_}
 use native.Mathlib.Omega.{arith}
 use lib.ListN.{length, getD, take}
 use lib.Seq.{take-length}
-use Rattle.packed_log.specs.Bits.{Bytes, put}
+use Rattle.packed_log.specs.Bits.{put}
 use Rattle.packed_log.specs.Writing.{leaderBits}
 use Rattle.packed_log.proofs.BitsLaws.{put-none, length-put}
 use Rattle.packed_log.proofs.WritingLaws.{next-leader-bits}
@@ -18,13 +18,6 @@ Inv-loop buf₀ at schedule i₀ buf i = (i ≤ length schedule) × (buf ≡ put
 abbrev μ-loop : tie.MeasureT-loop
 μ-loop buf₀ at schedule i₀ buf i = length schedule - i
 
-loop-holds : tie.Need-loop-holds Inv-loop μ-loop
-unfolding leaderBits
-loop-holds c =
-    let a = c .before .before .args in
-    let bytes : Bytes (a .buf .now) = λ i. omega (arith, c .before .slice-known .given i) in
-    (search needs, sym (put-none (a .buf .now) (a .at) bytes))
-
 -- a leader has room in five bits
 small : (c : tie.After-shared-slice-known2 Inv-loop μ-loop)
     → getD (c .before .before .before .before .before .before .args .schedule .now) (c .before .before .before .loop .i) 0 < 32
@@ -36,12 +29,8 @@ long c = ap length (c .loop .inv .1) ∙ length-put _ _ _
 
 loop-again : tie.Need-loop-again Inv-loop μ-loop
 loop-again c =
-    let at-write-bits = c .before .before in
-    let at-loop = at-write-bits .before .before .before .before in
-    let a = at-loop .before .before .before .args in (
-      search needs,
-      rw (at-write-bits .write-bits .ensures) (next-leader-bits (a .buf .now) (at-loop .loop .buf) (a .at) (at-loop .loop .i) (a .schedule .now) (omega arith) (at-loop .loop .inv .1)),
-    )
+    let at-loop = c .before .before .before .before .before .before in
+    (search needs, next-leader-bits _ _ _ _ _ _ (omega arith) (at-loop .loop .inv .1) (c .before .before .write-bits .ensures))
 
 returns : tie.Need-returns Inv-loop μ-loop
 returns c =
@@ -50,12 +39,10 @@ returns c =
     c .before .loop .inv .1 ∙ rw (end, take-length schedule)
 
 pub write-leaders-spec : {M : Type 1} → statement M
+unfolding leaderBits
 write-leaders-spec =
-    tie.close
-    (tie.spec
-    Inv-loop
-    μ-loop
-    loop-holds
+    tie.close (tie.spec Inv-loop μ-loop
+    (λ c. (search needs, sym (put-none _ _ (λ i. omega (arith, c .before .slice-known .given i)))))
     (search needs) (search needs) (search needs)
     (λ c. omega (arith, small c))
     (λ c κs. (omega arith, omega (arith, long (c .before .before .before)), small c))

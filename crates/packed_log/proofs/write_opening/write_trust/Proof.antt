@@ -5,7 +5,7 @@ use mathlib.Core.Path.{_≡_, sym, ap, _∙_}
 use native.Mathlib.Omega.{arith}
 use lib.ListN.{length}
 use Rattle.words.proofs.Digits.{digit-lt}
-use Rattle.packed_log.specs.Bits.{Bytes, put}
+use Rattle.packed_log.specs.Bits.{put}
 use Rattle.packed_log.specs.Writing.{trustBits}
 use Rattle.packed_log.proofs.BitsLaws.{put-none, length-put}
 use Rattle.packed_log.proofs.WritingLaws.{next-trust-bit}
@@ -18,13 +18,6 @@ Inv-loop buf₀ at n trust q₀ buf q = (q ≤ n) × (buf ≡ put buf₀ at (tru
 abbrev μ-loop : tie.MeasureT-loop
 μ-loop buf₀ at n trust q₀ buf q = n - q
 
-loop-holds : tie.Need-loop-holds Inv-loop μ-loop
-unfolding trustBits
-loop-holds c =
-    let a = c .before .args in
-    let bytes : Bytes (a .buf .now) = λ i. omega (arith, c .slice-known .given i) in
-    (search needs, sym (put-none (a .buf .now) (a .at) bytes))
-
 -- a trust bit is below 2
 bit : (c : tie.After-bit Inv-loop μ-loop) → c .bit .result < 2
 bit c = rw (c .bit .ensures) (digit-lt 2 _ _ (omega arith))
@@ -35,13 +28,8 @@ long c = ap length (c .loop .inv .1) ∙ length-put _ _ _
 
 loop-again : tie.Need-loop-again Inv-loop μ-loop
 loop-again c =
-    let at-write-bits = c .before .before in
-    let at-bit = at-write-bits .before in
-    let at-loop = at-bit .before .before .before in
-    let a = at-loop .before .before .args in (
-      search needs,
-      rw (at-write-bits .write-bits .ensures) (next-trust-bit (a .buf .now) (at-loop .loop .buf) (a .at) (at-loop .loop .q) (a .trust) _ (at-loop .loop .inv .1) (at-bit .bit .ensures)),
-    )
+    let at-bit = c .before .before .before in
+    (search needs, next-trust-bit _ _ _ _ _ _ _ (at-bit .before .before .before .loop .inv .1) (at-bit .bit .ensures) (c .before .before .write-bits .ensures))
 
 returns : tie.Need-returns Inv-loop μ-loop
 returns c =
@@ -49,12 +37,10 @@ returns c =
     c .before .loop .inv .1 ∙ rw end
 
 pub write-trust-spec : {M : Type 1} → statement M
+unfolding trustBits
 write-trust-spec =
-    tie.close
-    (tie.spec
-    Inv-loop
-    μ-loop
-    loop-holds
+    tie.close (tie.spec Inv-loop μ-loop
+    (λ c. (search needs, sym (put-none _ _ (λ i. omega (arith, c .slice-known .given i)))))
     (search needs) (search needs) (search needs)
     (λ c. omega (arith, bit c))
     (λ c κs. (omega arith, omega (arith, long (c .before .before .before)), bit c))

@@ -8,8 +8,7 @@ use Rattle.packed_log.proofs.writing.is_wide.Tie as tie
 pub is-wide-spec : {M : Type 1} → statement M
 unfolding wide
 is-wide-spec =
-    tie.close
-    (tie.spec
+    tie.close (tie.spec
     (search needs) (search needs) (search needs) (search needs) (search needs) (search needs)
     (search needs) (search needs)
     (λ c. search columns depth 6))

@@ -9,8 +9,7 @@ use Rattle.packed_log.proofs.writing.row_refusal.Tie as tie
 pub row-refusal-spec : {M : Type 1} → statement M
 unfolding rowRefused
 row-refusal-spec =
-    tie.close
-    (tie.spec
+    tie.close (tie.spec
     (search needs)
     (λ c. search judging depth 12)
     (search needs) (search needs) (search needs)

@@ -32,8 +32,7 @@ returns-2 c =
 
 pub write-step-spec : {M : Type 1} → statement M
 write-step-spec =
-    tie.close
-    (tie.spec
+    tie.close (tie.spec
     (search needs)
     (λ c κs. known (c .before))
     (search needs)
