@@ -15,7 +15,7 @@ use Rattle.words.proofs.Tests.{either-false-left, either-false-right}
 use Rattle.register.specs.declared.step.Step.{Step}
 use Rattle.packed_log.specs.Bits.{Bytes, bits, bytes, put}
 use Rattle.packed_log.specs.Rows.{rowOf}
-use Rattle.packed_log.specs.Writing.{stepBits, endBits, wide, room, short, openingRefused, stepRefused, endRefused, wrote, laid}
+use Rattle.packed_log.specs.Writing.{stepBits, endBits, room, short, openingRefused, stepRefused, endRefused, wrote, laid}
 use Rattle.packed_log.specs.Logs.{Case, stepsBits, bodyBits, packed, anyWide, Filled, afterCall, afterStepCalls, afterOpeningCall, afterEndCall, afterCalls}
 use Rattle.packed_log.proofs.BitsLaws.{length-bits, length-put, put-put, put-left, put-none, bytes-bits}
 use Rattle.packed_log.proofs.Windows.{bytes-drop}
@@ -68,11 +68,9 @@ steps-calls buffer t (s ∷ ss) narrow enough =
     let joined : t ++ (stepBits s ++ stepsBits ss) ≡ t ++ stepBits s ++ stepsBits ss = sym (append-assoc t (stepBits s) (stepsBits ss)) in
     let all : Room buffer (t ++ stepBits s ++ stepsBits ss) = rw joined at enough in
     let one : Room buffer (t ++ stepBits s) = room-front buffer (t ++ stepBits s) (stepsBits ss) all in
-    let narrow-one : wide (rowOf s) ≡ false = either-false-left (wide (rowOf s)) (anyWide ss) narrow in
-    let narrow-rest : anyWide ss ≡ false = either-false-right (wide (rowOf s)) (anyWide ss) narrow in
-    let none : stepRefused (put buffer 0 t) (length t) s ≡ 0 = row-fits (put buffer 0 t) (length t) (rowOf s) narrow-one (long-enough buffer t (stepBits s) one) in
+    let none : stepRefused (put buffer 0 t) (length t) s ≡ 0 = row-fits (put buffer 0 t) (length t) (rowOf s) (either-false-left _ _ narrow) (long-enough buffer t (stepBits s) one) in
     rw (call buffer t (stepBits s) (stepRefused (put buffer 0 t) (length t) s) none, joined)
-    (steps-calls buffer (t ++ stepBits s) ss narrow-rest all)
+    (steps-calls buffer (t ++ stepBits s) ss (either-false-right _ _ narrow) all)
 
 -- the call for the end lays it
 end-call : (buffer : List ℕ) (t : List Bool) → Room buffer (t ++ endBits (length t))

@@ -4,12 +4,13 @@ use mathlib.Core.Path.{_≡_, refl, sym, _∙_}
 use mathlib.Core.Bool.{true, false, not, Bool}
 use mathlib.Core.List.{List, [], _++_, append-assoc, append-nil}
 use native.Mathlib.Omega.{arith}
-use borrow.Author.Tests.{ltb-false, leb-false, eqb-true, not-false, le-ltb, lt-leb, eq-eqb, ne-eqb, ltb-true, lt-ltb}
+use borrow.Author.Tests.{ltb-false, leb-false, eqb-true, not-false, eq-eqb, ne-eqb, ltb-true, lt-ltb}
 use lib.Dec.{eqb, eqb·suc-zero, ltb, T}
 use lib.ListN.{length, drop, length-append, drop-of-length-le}
 use Rattle.words.specs.Tests.{choose, both}
 use Rattle.words.specs.Refusals.{first}
 use Rattle.words.proofs.Tests.{both-false, both-fails, both-left, both-right}
+use Rattle.words.proofs.Turns.{turns}
 use Rattle.words.proofs.Refusals.{positive, Clear, first-clear}
 use Rattle.packed_log.specs.declared.item.Read.{Read}
 use Rattle.packed_log.specs.declared.item.Skipped.{Skipped}
@@ -41,15 +42,11 @@ pub record Whole (log : List ℕ) (p : ℕ) : Type 0 where
 module _ (log : List ℕ) (p : ℕ) where
   -- nothing is refused where they say it
   pub unrefused : Whole log p → refusalAt log p ≡ 0
-  unfolding first choose
   unrefused whole =
-      rw (
-        le-ltb 65536 (length log) (whole .small),
-        le-ltb (left log p) 4 (whole .head),
-        lt-leb kinds (kindAt log p) (whole .known),
-        le-ltb (left log (p + 4)) (due (kindAt log p)) (whole .fields),
-        both-fails (eqb (kindAt log p) 0) (not (padded log (p + 4))) (λ none. rw (whole .pad (eqb-true (kindAt log p) 0 none))),
-      )
+      let k : ℕ = kindAt log p in
+      let last : both (eqb k 0) (not (padded log (p + 4))) ≡ false = both-fails (eqb k 0) _ (λ none. rw (whole .pad (eqb-true k 0 none))) in
+      let none : 0 ≡ refusalAt log p = search turns depth 12 in
+      sym none
 
   -- and only there
   pub whole : refusalAt log p ≡ 0 → Whole log p
@@ -57,13 +54,8 @@ module _ (log : List ℕ) (p : ℕ) where
   whole none =
       let k : ℕ = kindAt log p in
       let tests : Clear (itemTests log p k) = first-clear (itemTests log p k) refl none in
-      record {
-        small = ltb-false 65536 (length log) (tests .0);
-        head = ltb-false (left log p) 4 (tests .1 .0);
-        known = leb-false kinds k (tests .1 .1 .0);
-        fields = ltb-false (left log (p + 4)) (due k) (tests .1 .1 .1 .0);
-        pad = λ end. not-false (padded log (p + 4)) (both-false (eqb k 0) _ (tests .1 .1 .1 .1 .0) (eq-eqb k 0 end));
-      }
+      let last : k ≡ 0 → padded log (p + 4) ≡ true = λ end. not-false (padded log (p + 4)) (both-false (eqb k 0) _ (tests .1 .1 .1 .1 .0) (eq-eqb k 0 end)) in
+      search (ltb-false, leb-false)
 
   module _ (good : Whole log p) where
     -- the end that stands at position p
@@ -128,13 +120,7 @@ outcome log p = by-refusal log p (refusalAt log p) refl
 -- the numbers of a row that is read have room in their columns
 pub narrow-row : (log : List ℕ) (p kind : ℕ) → Narrow (rowAt log kind p)
 unfolding rowAt
-narrow-row log p k =
-    record {
-      first = field-lt log p (width k 0);
-      second = field-lt log (p + width k 0) (width k 1);
-      third = field-lt log (p + width k 0 + width k 1) (width k 2);
-      fourth = field-lt log (p + width k 0 + width k 1 + width k 2) (width k 3);
-    }
+narrow-row log p k = search field-lt
 
 -- a step that is read has the row that it was read from
 pub same-row : (log : List ℕ) (p : ℕ) → Whole log p → 0 < kindAt log p → rowOf (stepOf (rowAt log (kindAt log p) (p + 4))) ≡ rowAt log (kindAt log p) (p + 4)

@@ -9,9 +9,8 @@ use Rattle.words.proofs.Tests.{either-false-left, either-false-right}
 use Rattle.register.specs.declared.step.Step.{Step}
 use Rattle.packed_log.specs.declared.item.Read.{Read}
 use Rattle.packed_log.specs.Bits.{bits}
-use Rattle.packed_log.specs.Rows.{rowOf}
 use Rattle.packed_log.specs.Items.{read, itemAt}
-use Rattle.packed_log.specs.Writing.{stepBits, endBits, wide, openingBits}
+use Rattle.packed_log.specs.Writing.{stepBits, endBits, openingBits}
 use Rattle.packed_log.specs.Logs.{stepsBits, anyWide, ReadsFrom, Case, bodyBits, packed, Reads}
 use Rattle.packed_log.proofs.Standing.{Stands, stands-behind}
 use Rattle.packed_log.proofs.ItemLaws.{step-reads, end-reads, Found, item-found}
@@ -41,11 +40,9 @@ unfolding ReadsFrom stepsBits anyWide
 steps-read log small p [] narrow h = ap (λ (r : Read). r .item) (end-reads log p small (rw add-zero at h))
 steps-read log small p (s ∷ ss) narrow h =
     let next : ℕ = p + length (stepBits s) in
-    let narrow-one : wide (rowOf s) ≡ false = either-false-left (wide (rowOf s)) (anyWide ss) narrow in
-    let narrow-rest : anyWide ss ≡ false = either-false-right (wide (rowOf s)) (anyWide ss) narrow in
     let stands : Stands log p (stepBits s ++ restBits ss next) = h ∙ rest-step s ss p next refl in
-    let one : itemAt log p ≡ read (items.Step s) next = step-reads log p s (restBits ss next) small narrow-one stands in
-    rw one (refl, steps-read log small next ss narrow-rest (stands-behind log p (stepBits s) (restBits ss next) stands))
+    let one : itemAt log p ≡ read (items.Step s) next = step-reads log p s (restBits ss next) small (either-false-left _ _ narrow) stands in
+    rw one (refl, steps-read log small next ss (either-false-right _ _ narrow) (stands-behind log p (stepBits s) (restBits ss next) stands))
 
 -- steps that are read with the end behind them stand there
 pub steps-stand : (log : List ℕ) (p : ℕ) (ss : List Step) → ReadsFrom log p ss → Stands log p (restBits ss p)

@@ -38,17 +38,9 @@ pub accepted : (n trust : ℕ) (schedule : List ℕ) → openingRefusal n trust 
 unfolding openingRefusal stray Clear positive both
 accepted n trust schedule h =
     let tests : Clear (openingTests n trust schedule) = first-clear (openingTests n trust schedule) refl h in
-    let offices : between 1 32 n ≡ true = not-false (between 1 32 n) (tests .0) in
-    let epochs : between 1 256 (length schedule) ≡ true = not-false (between 1 256 (length schedule)) (tests .1 .0) in
-    record {
-      offices = offices;
-      epochs = epochs;
-      leaders = tests .1 .1 .0;
-      third = tests .1 .1 .1 .0;
-      count = between-true 1 32 n offices;
-      turns = between-true 1 256 (length schedule) epochs;
-      leader = λ i l. leb-false n (getD schedule i 0) (any-none (λ j. leb n (getD schedule j 0)) (length schedule) i (tests .1 .1 .0) l);
-    }
+    let leader : (i : ℕ) → i < length schedule → getD schedule i 0 < n =
+    λ i l. leb-false n (getD schedule i 0) (any-none (λ j. leb n (getD schedule j 0)) (length schedule) i (tests .1 .1 .0) l) in
+    search (between-true, not-false)
 
 -- a loop's next turn: the trust bits of the offices below q are in the word, and now that of office q
 pub next-trust : (log : List ℕ) (q w d : ℕ) → q < 32 → w ≡ trustIn log q → d ≡ field log (6 + q) 1
@@ -125,16 +117,16 @@ opened-refused log n k refusal some = rw (ne-eqb refusal 0 some)
 -- n offices and k leaders in their ranges; the leaders that are there have been opened, and the refusal of all was told from that
 module _ (log : List ℕ) (n k : ℕ) (low : 1 ≤ n) (high : n ≤ 32) (some : 1 ≤ k) (most : k ≤ 256)
     (there : ℕ) (whole : there ≡ thereIn log n k)
-    (o : Opened) (opens : o ≡ opening n (trustIn log n) (leadersAt log (15 + n) there))
+    (trust : ℕ) (word : trust ≡ trustIn log n) (schedule : List ℕ) (led-by : schedule ≡ leadersAt log (15 + n) there)
+    (o : Opened) (opens : o ≡ opening n trust schedule)
     (refusal : ℕ) (told : refusal ≡ choose (eqb (o .refusal) 3) 3 (choose (ltb there k) 27 (o .refusal)))
   where
     -- that refusal is the first of the leaders' tests
     same : refusal ≡ first (leaderTests log n k)
     unfolding opening
     same =
-        let schedule : List ℕ = leadersAt log (15 + n) there in
-        let long : length schedule ≡ there = length-leadersAt log (15 + n) there in
-        told ∙ rw (opens, ← whole) (rw long at (led n (trustIn log n) k schedule low high some (omega arith)))
+        let long : length schedule ≡ there = rw led-by (length-leadersAt log (15 + n) there) in
+        told ∙ rw (opens, ← whole, ← word, ← led-by) (rw long at (led n trust k schedule low high some (omega arith)))
 
     -- some leader is refused
     pub leaders-refused : (refusal ≡ 0 → ⊥) → opened closed refusal 0 ≡ openedBy log n k (first (leaderTests log n k))
@@ -146,8 +138,8 @@ module _ (log : List ℕ) (n k : ℕ) (low : 1 ≤ n) (high : n ≤ 32) (some : 
     leaders-opened good =
         let clear : (ltb there k ≡ false) × (o .refusal ≡ 0) = told-none (eqb (o .refusal) 3) (ltb there k) (o .refusal) (sym told ∙ good) in
         let all : there ≡ k = omega (arith, ltb-false there k (clear .0)) in
-        let opening-clear : openingRefusal n (trustIn log n) (leadersAt log (15 + n) there) ≡ 0 = sym (ap (λ (x : Opened). x .refusal) opens) ∙ clear .1 in
-        let held : o .register ≡ fresh n (trustIn log n) (leadersAt log (15 + n) k) = rw (← all) (ap (λ (x : Opened). x .register) opens ∙ rw opening-clear) in
+        let opening-clear : openingRefusal n trust schedule ≡ 0 = sym (ap (λ (x : Opened). x .refusal) opens) ∙ clear .1 in
+        let held : o .register ≡ fresh n (trustIn log n) (leadersAt log (15 + n) k) = rw (← all, ← word, ← led-by) (ap (λ (x : Opened). x .register) opens ∙ rw opening-clear) in
         rw (← same, good, held)
 
 -- what holds where nothing is refused up to the schedule's length
@@ -161,12 +153,7 @@ pub front-clear : (log : List ℕ) (n k : ℕ) → first (frontTests log n k) �
 unfolding Clear positive both
 front-clear log n k h =
     let tests : Clear (frontTests log n k) = first-clear (frontTests log n k) refl h in
-    record {
-      small = ltb-false 65536 (length log) (tests .0);
-      offices = between-true 1 32 n (not-false _ (tests .1 .1 .0));
-      there = ltb-false (left log 6) (n + 9) (tests .1 .1 .1 .0);
-      epochs = between-true 1 256 k (not-false _ (tests .1 .1 .1 .1 .0));
-    }
+    search (ltb-false, between-true, not-false)
 
 module _ (log : List ℕ) (n k : ℕ) (count : n ≡ countIn log) (epochs : k ≡ lengthIn log n) where
   -- the opening, by the first of all the tests

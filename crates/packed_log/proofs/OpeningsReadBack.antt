@@ -70,8 +70,8 @@ leaders-read : (log : List ℕ) (p : ℕ) (schedule : List ℕ) (u : List Bool) 
 unfolding leadersAt leaderBits
 leaders-read log p [] u small h = refl
 leaders-read log p (q ∷ schedule) u small h =
-    let first = value-read log p 5 q _ (small 0 (omega arith)) (rw append-assoc at h) in
-    rw (first .value, leaders-read log (p + 5) schedule u (λ i l. small (suc i) (omega arith)) (first .behind))
+    let one = value-read log p 5 q _ (small 0 (omega arith)) (rw append-assoc at h) in
+    rw (one .value, leaders-read log (p + 5) schedule u (λ i l. small (suc i) (omega arith)) (one .behind))
 
 -- leaders that are read stand there
 leaders-stand : (log : List ℕ) (p k : ℕ) → p + 5 * k ≤ 8 * length log

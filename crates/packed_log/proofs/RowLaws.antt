@@ -5,7 +5,7 @@ use mathlib.Core.Bool.{Bool, true, false}
 use native.Mathlib.Omega.{arith}
 use borrow.Author.Tests.{eqb-true, leb-true, leb-false}
 use lib.Dec.{eqb, leb, T, eqb·suc-zero, leb→le}
-use Rattle.words.specs.Tests.{both, all, choose, either}
+use Rattle.words.specs.Tests.{both, all, choose}
 use Rattle.words.proofs.Tests.{both-left, both-right, all-at, either-false-left, either-false-right}
 use Rattle.packed_log.specs.Widths.{kinds, fields, width}
 use mathlib.Core.List.{List}
@@ -137,26 +137,12 @@ pub row-step : (r : Row) → Narrow r → 0 < r .kind → r .kind < kinds → ro
 row-step r h low high =
     let here : 1 + (r .kind - 1) ≡ r .kind = omega arith in
     (rw here at (each-at Back (kinds - 1) 1 (r .kind - 1) all-back (omega arith))) (r .first) (r .second) (r .third) (r .fourth) h
-    ∙ rw (
-      kept-same (width (r .kind) 0) (r .first) (h .first),
-      kept-same (width (r .kind) 1) (r .second) (h .second),
-      kept-same (width (r .kind) 2) (r .third) (h .third),
-      kept-same (width (r .kind) 3) (r .fourth) (h .fourth),
-    )
+    ∙ search kept-same
 
 -- where no number of a row is too wide, each has room in its column
 pub narrow : (r : Row) → wide r ≡ false → Narrow r
 unfolding wide
-narrow r h =
-    let over : (column v : ℕ) → Bool = λ column v. leb (2 ^ width (r .kind) column) v in
-    let later : either (over 1 (r .second)) (either (over 2 (r .third)) (over 3 (r .fourth))) ≡ false = either-false-right (over 0 (r .first)) _ h in
-    let last : either (over 2 (r .third)) (over 3 (r .fourth)) ≡ false = either-false-right (over 1 (r .second)) _ later in
-    record {
-      first = leb-false _ (r .first) (either-false-left (over 0 (r .first)) _ h);
-      second = leb-false _ (r .second) (either-false-left (over 1 (r .second)) _ later);
-      third = leb-false _ (r .third) (either-false-left (over 2 (r .third)) _ last);
-      fourth = leb-false _ (r .fourth) (either-false-right (over 2 (r .third)) _ last);
-    }
+narrow r h = search (leb-false, either-false-left, either-false-right)
 
 -- a row that was read has the kind that it was read by
 pub kind-read : (log : List ℕ) (kind p : ℕ) (r : Row) → r ≡ rowAt log kind p → r .kind ≡ kind

@@ -55,34 +55,29 @@ any-column a b c d x y z t e f g h = rw (← e, ← f, ← g, ← h, or-either, 
 
 pub ruleset columns = (in-column, over-column, any-column)
 
-module _ (r : Row) (p w0 w1 w2 w3 : ℕ)
-    (e0 : w0 ≡ width (r .kind) 0) (e1 : w1 ≡ width (r .kind) 1) (e2 : w2 ≡ width (r .kind) 2) (e3 : w3 ≡ width (r .kind) 3)
-  where
-    -- a kind with its first field, and the other fields, laid one behind the other, are the row
-    pub put-row : (l : List ℕ) → r .first < 2 ^ w0 → (head : ℕ) → head ≡ r .kind * 2 ^ w0 + r .first
-        → (l1 l2 l3 l4 : List ℕ) → l1 ≡ put l p (toBits (4 + w0) head) → l2 ≡ put l1 (p + 4 + w0) (toBits w1 (r .second))
-        → l3 ≡ put l2 (p + 4 + w0 + w1) (toBits w2 (r .third)) → l4 ≡ put l3 (p + 4 + w0 + w1 + w2) (toBits w3 (r .fourth))
-        → l4 ≡ put l p (rowBits r)
-    unfolding rowBits
-    put-row l small head joined l1 l2 l3 l4 h1 h2 h3 h4 =
-        let t1 : List Bool = toBits 4 (r .kind) ++ toBits w0 (r .first) in
-        let t2 : List Bool = t1 ++ toBits w1 (r .second) in
-        let t3 : List Bool = t2 ++ toBits w2 (r .third) in
-        rw (
-          h4,
-          h3,
-          h2,
-          h1,
-          joined,
-          join-bits 4 w0 (r .kind) (r .first) small,
-          put-next l p t1 (toBits w1 (r .second)) (p + 4 + w0) (simp (length-append, length-toBits) (omega arith)),
-          put-next l p t2 (toBits w2 (r .third)) (p + 4 + w0 + w1) (simp (length-append, length-toBits) (omega arith)),
-          put-next l p t3 (toBits w3 (r .fourth)) (p + 4 + w0 + w1 + w2) (simp (length-append, length-toBits) (omega arith)),
-          ← e0,
-          ← e1,
-          ← e2,
-          ← e3,
-        )
+-- a kind with its first field, and the other fields, laid one behind the other, are the row
+pub put-row : (r : Row) (p w0 w1 w2 w3 head : ℕ) (l l1 l2 l3 l4 : List ℕ)
+    → l4 ≡ put l3 (p + 4 + w0 + w1 + w2) (toBits w3 (r .fourth)) → l3 ≡ put l2 (p + 4 + w0 + w1) (toBits w2 (r .third))
+    → l2 ≡ put l1 (p + 4 + w0) (toBits w1 (r .second)) → l1 ≡ put l p (toBits (4 + w0) head)
+    → head ≡ r .kind * 2 ^ w0 + r .first → r .first < 2 ^ w0
+    → w0 ≡ width (r .kind) 0 → w1 ≡ width (r .kind) 1 → w2 ≡ width (r .kind) 2 → w3 ≡ width (r .kind) 3
+    → l4 ≡ put l p (rowBits r)
+unfolding rowBits
+put-row r p w0 w1 w2 w3 head l l1 l2 l3 l4 h4 h3 h2 h1 joined small e0 e1 e2 e3 =
+    let t1 : List Bool = toBits 4 (r .kind) ++ toBits w0 (r .first) in
+    let t2 : List Bool = t1 ++ toBits w1 (r .second) in
+    let t3 : List Bool = t2 ++ toBits w2 (r .third) in
+    let first : toBits (4 + w0) head ≡ t1 = rw joined (join-bits 4 w0 (r .kind) (r .first) small) in
+    rw (h4, h3, h2, h1, first)
+    (rw (
+      put-next l p t1 (toBits w1 (r .second)) (p + 4 + w0) (simp (length-append, length-toBits) (omega arith)),
+      put-next l p t2 (toBits w2 (r .third)) (p + 4 + w0 + w1) (simp (length-append, length-toBits) (omega arith)),
+      put-next l p t3 (toBits w3 (r .fourth)) (p + 4 + w0 + w1 + w2) (simp (length-append, length-toBits) (omega arith)),
+      ← e0,
+      ← e1,
+      ← e2,
+      ← e3,
+    ))
 
 -- a kind with a first field of at most ten bits has room in 16 bits, and in those of both
 pub head-fits : (k w x : ℕ) → k < kinds → w ≤ 10 → x < 2 ^ w

@@ -13,16 +13,6 @@ write-leaders-requires c κs =
     let begun = at-count .before .before .before .before in
     (begun .pre .1, (omega arith, omega arith))
 
-returns : tie.Need-returns
-returns c =
-    let at-leaders = c .before .before in
-    let at-length = at-leaders .before .before .before .before in
-    let at-trust = at-length .before .before .before .before in
-    let at-count = at-trust .before .before .before .before in
-    let a = at-count .before .before .before .before .args in
-    put-opening (a .buf .now) (a .at) (a .n) (a .trust) (a .schedule .now) _ _ _ _
-    (at-count .write-bits .ensures) (at-trust .write-trust .ensures) (at-length .write-bits2 .ensures) (at-leaders .write-leaders .ensures)
-
 pub lay-opening-spec : {M : Type 1} → statement M
 lay-opening-spec =
     tie.close (tie.spec
@@ -30,4 +20,4 @@ lay-opening-spec =
     (search needs)
     write-leaders-requires
     (search needs)
-    returns)
+    (λ c. search put-opening depth 3))

@@ -27,10 +27,10 @@ returns c =
     let at-w2 = at-w3 .before in
     let at-w0 = at-w2 .before .before in
     let a = at-w0 .before .before .args in
-    put-row (a .r) (a .at) _ _ _ _
+    put-row (a .r) (a .at) _ _ _ _ _ (a .buf .now) _ _ _ _
+    (at-fourth .write-bits4 .ensures) (at-third .write-bits3 .ensures) (at-second .write-bits2 .ensures) (at-first .write-bits .ensures)
+    (at-head .head-of .ensures .0) (search columns depth 4)
     (at-w0 .width-of .ensures .0) (at-w2 .before .width-of2 .ensures .0) (at-w2 .width-of3 .ensures .0) (at-w3 .width-of4 .ensures .0)
-    (a .buf .now) (search columns depth 4) _ (at-head .head-of .ensures .0) _ _ _ _
-    (at-first .write-bits .ensures) (at-second .write-bits2 .ensures) (at-third .write-bits3 .ensures) (at-fourth .write-bits4 .ensures)
 
 pub write-row-spec : {M : Type 1} → statement M
 write-row-spec =
