@@ -16,6 +16,7 @@ use native.Mathlib.Omega.{arith}
 use lib.Seq.{take-suc, take-set-le, getD-set-same}
 use Rattle.words.proofs.Digits.{pow-within, fill-next}
 use Rattle.packed_log.specs.Bits.{field}
+use Rattle.packed_log.specs.declared.opening.Opening.{Opening}
 use Rattle.packed_log.specs.Openings.{trustIn, leadersAt, countIn, lengthIn, thereIn, frontTests, leaderTests, openingTestsIn, opened, openedBy, openingIn}
 use Rattle.packed_log.proofs.BitsLaws.{field-lt}
 use Rattle.words.specs.Refusals.{_⇒_, first}
@@ -67,10 +68,11 @@ leaders-snoc log p (suc k) =
     ap (λ r. field log p 5 ∷ r) (rw e at (leaders-snoc log (p + 5) k))
 
 -- a loop's next turn: the first i leaders are in the table, and the next is put in
-pub next-leader : (log : List ℕ) (p i x : ℕ) (l : List ℕ) → i < length l → take i l ≡ leadersAt log p i → x ≡ field log (p + 5 * i) 5
-    → take (i + 1) (set l i x) ≡ leadersAt log p (i + 1)
-next-leader log p i x l h before e =
-    let room : i < length (set l i x) = rw length-set h in
+pub next-leader : (log : List ℕ) (p i count size x : ℕ) (l : List ℕ) → i < count → count ≤ size → length l ≡ size
+    → take i l ≡ leadersAt log p i → x ≡ field log (p + 5 * i) 5 → take (i + 1) (set l i x) ≡ leadersAt log p (i + 1)
+next-leader log p i count size x l h most long before e =
+    let inside : i < length l = omega arith in
+    let room : i < length (set l i x) = rw length-set inside in
     rw (add-one, take-suc (set l i x) i 0 room, take-set-le i l i x (omega arith), getD-set-same, before, e) (sym (leaders-snoc log p i))
 
 -- the refusal of all leaders, told from that of opening those that are there: by what is tested of their number (b), of each (s), of
@@ -129,8 +131,8 @@ module _ (log : List ℕ) (n k : ℕ) (low : 1 ≤ n) (high : n ≤ 32) (some : 
         told ∙ rw (opens, ← whole, ← word, ← led-by) (rw long at (led n trust k schedule low high some (omega arith)))
 
     -- some leader is refused
-    pub leaders-refused : (refusal ≡ 0 → ⊥) → opened closed refusal 0 ≡ openedBy log n k (first (leaderTests log n k))
-    leaders-refused bad = opened-refused log n k refusal bad ∙ ap (openedBy log n k) same
+    pub leaders-refused : (x : Opening) → x ≡ opened closed refusal 0 → (refusal ≡ 0 → ⊥) → x ≡ openedBy log n k (first (leaderTests log n k))
+    leaders-refused x e bad = e ∙ opened-refused log n k refusal bad ∙ ap (openedBy log n k) same
 
     -- none is
     pub leaders-opened : refusal ≡ 0 → opened (o .register) refusal (15 + n + 5 * k) ≡ openedBy log n k (first (leaderTests log n k))

@@ -7,6 +7,8 @@ use native.Mathlib.Nat.{add-assoc, add-zero, div-add-mod, div-mul-le-self, div-o
 use native.Mathlib.Omega.{arith}
 use lib.ListN.{length, getD, set, take, drop, replicate, length-append, length-drop}
 use lib.Pow.{pow-pos, shl-exact}
+use mir.Syntax.{w8}
+use mir.Val.{Fits}
 use lib.Seq.{sets, length-sets, take-at, drop-drop, getD-drop}
 use Rattle.packed_log.specs.Bits.{Bytes, toBits, num, bits, pack, field, put}
 use Rattle.packed_log.specs.Windows.{window, over}
@@ -143,13 +145,18 @@ zeros zero i = omega arith
 zeros (suc n) zero = omega arith
 zeros (suc n) (suc i) = zeros n i
 
--- a field within the first three bytes of a buffer changes only these
-pub put-window : (l : List ℕ) (p w x : ℕ) → Bytes l → p + w ≤ 24 → p + w ≤ 8 * length l → x < 2 ^ w → (v : ℕ) → v ≡ over (window l 0) (24 - p - w) w x → put l p (toBits w x) ≡ set (set (set l 0 (v / 65536)) 1 (v / 256 % 256)) 2 (v % 256)
+-- three stores, of the bytes of a window with a field laid over it, lay the field over the buffer
+pub put-stores : (l l1 l2 l3 : List ℕ) (p w x v before : ℕ) → ((i : ℕ) → Fits w8 (getD l i 0)) → p < 8 → w ≤ 16 → p + w ≤ 8 * length l → x < 2 ^ w
+    → before ≡ window l 0 → v ≡ over before (24 - p - w) w x
+    → l1 ≡ set l 0 (v / 65536) → l2 ≡ set l1 1 (v / 256 % 256) → l3 ≡ set l2 2 (v % 256) → l3 ≡ put l p (toBits w x)
 unfolding three split
-put-window l p w x h short room hx v e = go l h room (put-three l p w x h short hx ∙ ap split (sym e))
+put-stores l l1 l2 l3 p w x v before known low narrow room hx seen laid e1 e2 e3 =
+    let h : Bytes l = λ i. known i .fits in
+    let short : p + w ≤ 24 = omega arith in
+    rw (e3, e2, e1) (sym (go l h room (put-three l p w x h short hx ∙ ap split (sym (rw seen at laid)))))
   where
     go : (l : List ℕ) → Bytes l → p + w ≤ 8 * length l → put (three l) p (toBits w x) ≡ split v → put l p (toBits w x) ≡ set (set (set l 0 (v / 65536)) 1 (v / 256 % 256)) 2 (v % 256)
     go [] h room f = put-front [] (0 ∷ 0 ∷ 0 ∷ []) (split v) p (toBits w x) (zeros 3) (rw length-toBits room) f
     go (a ∷ []) h room f = put-front (a ∷ []) (0 ∷ 0 ∷ []) (split v) p (toBits w x) (zeros 2) (rw length-toBits room) f
     go (a ∷ b ∷ []) h room f = put-front (a ∷ b ∷ []) (0 ∷ []) (split v) p (toBits w x) (zeros 1) (rw length-toBits room) f
-    go (a ∷ b ∷ d ∷ l) h room f = put-left (a ∷ b ∷ d ∷ []) l p (toBits w x) (λ i. h (suc (suc (suc i)))) (rw length-toBits short) ∙ ap (λ (y : List ℕ). y ++ l) f
+    go (a ∷ b ∷ d ∷ l) h room f = put-left (a ∷ b ∷ d ∷ []) l p (toBits w x) (λ i. h (suc (suc (suc i)))) (rw length-toBits (omega arith)) ∙ ap (λ (y : List ℕ). y ++ l) f

@@ -3,7 +3,7 @@ use borrow.Author.Needs.{needs}
 use Prim.Native.Nat.{_-_, _≤_}
 use mathlib.Core.Path.{_≡_, refl}
 use native.Mathlib.Omega.{arith}
-use lib.ListN.{length, take, length-set}
+use lib.ListN.{length, take}
 use Rattle.packed_log.specs.Openings.{leadersAt}
 use Rattle.packed_log.proofs.OpeningLaws.{next-leader}
 use Rattle.packed_log.proofs.opening.read_leaders.Statement.{statement}
@@ -14,16 +14,6 @@ Inv-loop log at count leaders₀ i₀ leaders i = (i ≤ count) × (length leade
 
 abbrev μ-loop : tie.MeasureT-loop
 μ-loop log at count leaders₀ i₀ leaders i = count - i
-
-loop-again : tie.Need-loop-again Inv-loop μ-loop
-loop-again c =
-    let at-loop = c .before .before in
-    let a = at-loop .before .before .args in
-    let held = at-loop .loop .inv in (
-      search needs,
-      rw length-set (held .1),
-      next-leader (a .log .now) (a .at) (at-loop .loop .i) _ (at-loop .loop .leaders) (omega arith) (held .2) (c .read-bits .ensures .0),
-    )
 
 returns : tie.Need-returns Inv-loop μ-loop
 returns c =
@@ -37,5 +27,5 @@ read-leaders-spec =
     (λ c. (search needs, refl, refl))
     (search needs) (search needs) (search needs) (search needs) (search needs) (search needs)
     (search needs)
-    loop-again
+    (λ c. (search needs, search needs, search next-leader depth 2))
     returns)

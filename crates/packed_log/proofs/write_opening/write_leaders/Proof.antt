@@ -27,11 +27,6 @@ small c = c .before .before .before .before .before .before .pre .0 .leader _ (o
 long : (c : tie.At-loop Inv-loop μ-loop) → length (c .loop .buf) ≡ length (c .before .before .before .args .buf .now)
 long c = ap length (c .loop .inv .1) ∙ length-put _ _ _
 
-loop-again : tie.Need-loop-again Inv-loop μ-loop
-loop-again c =
-    let at-loop = c .before .before .before .before .before .before in
-    (search needs, next-leader-bits _ _ _ _ _ _ (omega arith) (at-loop .loop .inv .1) (c .before .before .write-bits .ensures))
-
 returns : tie.Need-returns Inv-loop μ-loop
 returns c =
     let schedule = c .before .before .before .before .args .schedule .now in
@@ -42,11 +37,11 @@ pub write-leaders-spec : {M : Type 1} → statement M
 unfolding leaderBits
 write-leaders-spec =
     tie.close (tie.spec Inv-loop μ-loop
-    (λ c. (search needs, sym (put-none _ _ (λ i. omega (arith, c .before .slice-known .given i)))))
+    (λ c. (search needs, sym (put-none _ _ (λ i. c .before .slice-known .given i .fits))))
     (search needs) (search needs) (search needs)
     (λ c. omega (arith, small c))
     (λ c κs. (omega arith, omega (arith, long (c .before .before .before)), small c))
     (search needs) (search needs)
-    loop-again
+    (λ c. (search needs, search next-leader-bits depth 2))
     (λ c. long (c .before))
     returns)

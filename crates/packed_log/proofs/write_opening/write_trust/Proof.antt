@@ -26,11 +26,6 @@ bit c = rw (c .bit .ensures) (digit-lt 2 _ _ (omega arith))
 long : (c : tie.At-loop Inv-loop μ-loop) → length (c .loop .buf) ≡ length (c .before .before .args .buf .now)
 long c = ap length (c .loop .inv .1) ∙ length-put _ _ _
 
-loop-again : tie.Need-loop-again Inv-loop μ-loop
-loop-again c =
-    let at-bit = c .before .before .before in
-    (search needs, next-trust-bit _ _ _ _ _ _ _ (at-bit .before .before .before .loop .inv .1) (at-bit .bit .ensures) (c .before .before .write-bits .ensures))
-
 returns : tie.Need-returns Inv-loop μ-loop
 returns c =
     let end : c .before .loop .q ≡ c .before .before .before .args .n = omega arith in
@@ -40,11 +35,11 @@ pub write-trust-spec : {M : Type 1} → statement M
 unfolding trustBits
 write-trust-spec =
     tie.close (tie.spec Inv-loop μ-loop
-    (λ c. (search needs, sym (put-none _ _ (λ i. omega (arith, c .slice-known .given i)))))
+    (λ c. (search needs, sym (put-none _ _ (λ i. c .slice-known .given i .fits))))
     (search needs) (search needs) (search needs)
     (λ c. omega (arith, bit c))
     (λ c κs. (omega arith, omega (arith, long (c .before .before .before)), bit c))
     (search needs) (search needs)
-    loop-again
+    (λ c. (search needs, search next-trust-bit depth 2))
     (λ c. long (c .before))
     returns)
