@@ -3,11 +3,11 @@ use Prim.Native.Nat.{ℕ, zero, suc, _+_, _*_, _-_, _/_, _%_, _^_, _≤_, _<_}
 use mathlib.Core.Path.{_≡_, refl, sym, ap, _∙_}
 use mathlib.Core.Bool.{Bool, true, false}
 use mathlib.Core.List.{List, [], _∷_, _++_, append-assoc}
-use native.Mathlib.Nat.{add-assoc, add-comm, add-mul, add-suc, add-zero, mod-eq-of-lt, mod-one, mul-assoc, one-mul, pow-succ', suc-add, two-pow-succ, zero-add, zero-div, zero-mul, div-one}
+use native.Mathlib.Nat.{add-assoc, add-comm, add-mul, add-suc, add-zero, mod-eq-of-lt, mod-lt, mod-one, mul-assoc, one-mul, pow-succ', suc-add, two-pow-succ, zero-add, zero-div, zero-mul, div-one}
 use native.Mathlib.Omega.{arith}
 use lib.Dec.{eqb}
-use lib.ListN.{length, take, drop, set, replicate, length-append, length-take, length-drop, length-set, take-append-drop}
-use lib.Pow.{pow-add, mod-pow-add, high, low, shr-shr}
+use lib.ListN.{length, take, drop, set, replicate, length-append, length-drop, length-set, take-append-drop}
+use lib.Pow.{pow-add, pow-pos, mod-pow-add, high, low, shr-shr}
 use lib.Seq.{sets, sets-eq, set-append-left, drop-append-le, take-append-le}
 use Rattle.words.specs.Tests.{choose}
 use Rattle.packed_log.specs.Bits.{toBits, num}
@@ -105,22 +105,20 @@ join-bits (suc a) b x y h =
     let above : v / 2 ^ (a + b) ≡ x / 2 ^ a = rw (add-comm a b, ← shr-shr v b a, high x b h) in
     rw (suc-add, above, join-bits a b x y h)
 
--- a part of a row, as a part of its number
-num-middle : (a m z : List Bool) → num (a ++ (m ++ z)) / 2 ^ length z % 2 ^ length m ≡ num m
-num-middle a m z =
-    let e : num (a ++ (m ++ z)) ≡ (num a * 2 ^ length m + num m) * 2 ^ length z + num z = rw (num-append a (m ++ z), num-append m z, length-append, pow-add, add-mul, mul-assoc, add-assoc) in
-    rw (e, high (num a * 2 ^ length m + num m) (length z) (num-lt z), low (num a) (length m) (num-lt m))
-
--- a row, cut into what stands before a part, the part, and what stands behind it
-cut : (r : List Bool) (p w : ℕ) → take p r ++ (take w (drop p r) ++ drop w (drop p r)) ≡ r
-cut r p w = rw (take-append-drop w (drop p r), take-append-drop p r)
+-- the first k bits of a row, and the others, as parts of its number
+num-split : (r : List Bool) (k : ℕ) → (num (take k r) ≡ num r / 2 ^ (length r - k)) × (num (drop k r) ≡ num r % 2 ^ (length r - k))
+num-split r k =
+    let rest : length (drop k r) ≡ length r - k = length-drop k r in
+    let split : num r ≡ num (take k r) * 2 ^ length (drop k r) + num (drop k r) = ap num (sym (take-append-drop k r)) ∙ num-append (take k r) (drop k r) in
+    rw (split, ← rest, high (num (take k r)) (length (drop k r)) (num-lt (drop k r)), low (num (take k r)) (length (drop k r)) (num-lt (drop k r))) (refl, refl)
 
 -- the w bits from position p on, as a part of the number of the whole row
 pub num-part : (r : List Bool) (p w : ℕ) → p + w ≤ length r → num (take w (drop p r)) ≡ num r / 2 ^ (length r - (p + w)) % 2 ^ w
 num-part r p w h =
-    let behind : length (drop w (drop p r)) ≡ length r - (p + w) = simp (length-drop) (omega arith) in
-    let inside : length (take w (drop p r)) ≡ w = simp (length-take, length-drop) (omega arith) in
-    sym (rw (cut r p w, behind, inside) at (num-middle (take p r) (take w (drop p r)) (drop w (drop p r))))
+    let g : ℕ = length r - (p + w) in
+    let behind : length (drop p r) - w ≡ g = rw length-drop (omega arith) in
+    let within : length r - p ≡ w + g = omega arith in
+    num-split (drop p r) w .0 ∙ rw (behind, num-split r p .1, within, mod-pow-add (num r) w g, high (num r / 2 ^ g % 2 ^ w) g (mod-lt (num r) (pow-pos g)))
 
 -- what stands behind both rows is out of reach
 pub part-append : {A : Type 0} (x y : List A) (p w : ℕ) → p + w ≤ length x → take w (drop p (x ++ y)) ≡ take w (drop p x)
@@ -149,13 +147,6 @@ sets-cons a y p (b ∷ t) = sets-cons a (set y p b) (suc p) t
 pub sets-right : {A : Type 0} (x y : List A) (p : ℕ) (t : List A) → sets (x ++ y) (length x + p) t ≡ x ++ sets y p t
 sets-right [] y p t = rw zero-add
 sets-right (a ∷ x) y p t = rw (suc-add, sets-cons a (x ++ y) (length x + p) t, sets-right x y p t)
-
--- the first k bits of a row, and the others, as parts of its number
-num-split : (r : List Bool) (k : ℕ) → (num (take k r) ≡ num r / 2 ^ (length r - k)) × (num (drop k r) ≡ num r % 2 ^ (length r - k))
-num-split r k =
-    let rest : length (drop k r) ≡ length r - k = length-drop k r in
-    let split : num r ≡ num (take k r) * 2 ^ length (drop k r) + num (drop k r) = ap num (sym (take-append-drop k r)) ∙ num-append (take k r) (drop k r) in
-    rw (split, ← rest, high (num (take k r)) (length (drop k r)) (num-lt (drop k r)), low (num (take k r)) (length (drop k r)) (num-lt (drop k r))) (refl, refl)
 
 -- the number of a row with another laid over it
 pub num-sets : (r : List Bool) (p : ℕ) (t : List Bool) → p + length t ≤ length r → num (sets r p t) ≡ over (num r) (length r - (p + length t)) (length t) (num t)

@@ -68,10 +68,8 @@ module _ (log : List ℕ) (p : ℕ) where
         → itemAt log p ≡ read (items.Step (stepOf (rowAt log (kindAt log p) (p + 4)))) (p + 4 + due (kindAt log p))
     unfolding itemAt skippedAt withFields choose
     step-item some =
-        let k : ℕ = kindAt log p in
-        let step : eqb k 0 ≡ false = ne-eqb k 0 (omega arith) in
-        let here : skippedAt log p ≡ skipped k 0 (p + 4 + due k) = rw (unrefused good, step) in
-        rw (here, step)
+        let step : eqb (kindAt log p) 0 ≡ false = ne-eqb (kindAt log p) 0 (omega arith) in
+        rw (unrefused good) (simp step)
 
 -- For `search skipping`: what is refused is skipped with its number, before a kind is read, and by the kind that was read
 pub refused-at : (log : List ℕ) (p number : ℕ) (x : Skipped) → x ≡ skipped 0 number p → number ≡ refusalAt log p → T (ltb 0 number)

@@ -3,7 +3,7 @@ use Prim.Native.Nat.{ℕ, zero, suc, _+_, _*_, _-_, _/_, _%_, _^_, _≤_, _<_}
 use mathlib.Core.Path.{_≡_, sym, ap, _∙_}
 use mathlib.Core.Bool.{Bool}
 use mathlib.Core.List.{List, [], _∷_, _++_, append-nil}
-use native.Mathlib.Nat.{add-assoc, add-zero, div-add-mod, div-mul-le-self, div-one, lt-of-le-of-lt, mod-eq-of-lt, one-mul}
+use native.Mathlib.Nat.{add-zero, div-add-mod, div-mul-le-self, div-one, lt-of-le-of-lt, mod-eq-of-lt, one-mul}
 use native.Mathlib.Omega.{arith}
 use lib.ListN.{length, getD, set, take, drop, replicate, length-append, length-drop}
 use lib.Pow.{pow-pos, shl-exact}
@@ -29,16 +29,10 @@ three l = getD l 0 0 ∷ getD l 1 0 ∷ getD l 2 0 ∷ []
 
 -- the row of three bytes has the number of the three
 num-three : (l : List ℕ) → Bytes l → num (bits (three l)) ≡ window l 0
-unfolding three bits num
+unfolding three bits
 num-three l h =
-    let x : List Bool = toBits 8 (getD l 0 0) in
-    let y : List Bool = toBits 8 (getD l 1 0) in
-    let z : List Bool = toBits 8 (getD l 2 0) in
-    let last : num (z ++ []) ≡ getD l 2 0 = rw (append-nil, num-toBits 8 (getD l 2 0) (h 2)) in
-    let long : length (z ++ []) ≡ 8 = rw (append-nil, length-toBits) in
-    let later : num (y ++ (z ++ [])) ≡ getD l 1 0 * 256 + getD l 2 0 = rw (num-append y (z ++ []), last, long, num-toBits 8 (getD l 1 0) (h 1)) in
-    let longer : length (y ++ (z ++ [])) ≡ 16 = rw (length-append, long, length-toBits) in
-    num-append x (y ++ (z ++ [])) ∙ rw (later, longer, num-toBits 8 (getD l 0 0) (h 0), add-assoc)
+    simp (append-nil, num-append, length-append, length-toBits, num-toBits 8 (getD l 0 0) (h 0), num-toBits 8 (getD l 1 0) (h 1), num-toBits 8 (getD l 2 0) (h 2))
+    (omega arith)
 
 -- a field within the first three bytes is a field of these
 field-three : (l : List ℕ) (p w : ℕ) → p + w ≤ 8 * length l → p + w ≤ 24 → field l p w ≡ field (three l) p w
@@ -95,6 +89,7 @@ pub record Shifted (v g w x : ℕ) : Type 0 where
   pub high : v / 2 ^ (g + w) * 2 ^ (g + w) % 2 ^ 32 ≡ v / 2 ^ (g + w) * 2 ^ (g + w)
   pub middle : x * 2 ^ g % 2 ^ 32 ≡ x * 2 ^ g
   pub unit : 1 * 2 ^ g % 2 ^ 32 ≡ 2 ^ g
+  pub low : v % (1 * 2 ^ g % 2 ^ 32) ≡ v % 2 ^ g
   pub some : 0 < 2 ^ g
   pub small : over v g w x < 2 ^ 24
 
@@ -104,6 +99,7 @@ shifted v g w x hv hw hx =
       high = high-shift v (g + w) hv;
       middle = shl-exact {a = x} w g 32 hx (omega arith);
       unit = unit-shift g (omega arith);
+      low = rw (unit-shift g (omega arith));
       some = pow-pos g;
       small = over-lt v g w x hv hw hx;
     }

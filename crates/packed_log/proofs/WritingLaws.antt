@@ -3,7 +3,7 @@ use Prim.Native.Nat.{ℕ, zero, suc, _+_, _*_, _-_, _%_, _^_, _≤_, _<_}
 use mathlib.Core.Path.{_≡_, refl, sym, _∙_}
 use mathlib.Core.Bool.{Bool, true, false, _||_}
 use mathlib.Core.List.{List, [], _∷_, _++_, append-assoc, append-nil}
-use native.Mathlib.Nat.{zero-add, suc-add, mul-le-mul-right, mod-eq-of-lt, min-le-left, min-le-right}
+use native.Mathlib.Nat.{add-assoc, zero-add, suc-add, mul-le-mul-right, mod-eq-of-lt, min-le-left, min-le-right}
 use native.Mathlib.Numerals.{add-one}
 use native.Mathlib.Omega.{arith}
 use borrow.Author.Tests.{ltb-false, ne-eqb}
@@ -51,7 +51,7 @@ over-column t x w v h e = h ∙ rw e
 
 -- the tests of four columns, joined
 pub any-column : (a b c d x y z t : Bool) → a ≡ x → b ≡ y → c ≡ z → d ≡ t → a || b || c || d ≡ either x (either y (either z t))
-any-column a b c d x y z t e f g h = rw (← e, ← f, ← g, ← h, or-either, or-either, or-either) (either-four a b c d)
+any-column a b c d x y z t e f g h = rw (← e, ← f, ← g, ← h) (simp or-either (either-four a b c d))
 
 pub ruleset columns = (in-column, over-column, any-column)
 
@@ -64,20 +64,8 @@ pub put-row : (r : Row) (p w0 w1 w2 w3 head : ℕ) (l l1 l2 l3 l4 : List ℕ)
     → l4 ≡ put l p (rowBits r)
 unfolding rowBits
 put-row r p w0 w1 w2 w3 head l l1 l2 l3 l4 h4 h3 h2 h1 joined small e0 e1 e2 e3 =
-    let t1 : List Bool = toBits 4 (r .kind) ++ toBits w0 (r .first) in
-    let t2 : List Bool = t1 ++ toBits w1 (r .second) in
-    let t3 : List Bool = t2 ++ toBits w2 (r .third) in
-    let first : toBits (4 + w0) head ≡ t1 = rw joined (join-bits 4 w0 (r .kind) (r .first) small) in
-    rw (h4, h3, h2, h1, first)
-    (rw (
-      put-next l p t1 (toBits w1 (r .second)) (p + 4 + w0) (simp (length-append, length-toBits) (omega arith)),
-      put-next l p t2 (toBits w2 (r .third)) (p + 4 + w0 + w1) (simp (length-append, length-toBits) (omega arith)),
-      put-next l p t3 (toBits w3 (r .fourth)) (p + 4 + w0 + w1 + w2) (simp (length-append, length-toBits) (omega arith)),
-      ← e0,
-      ← e1,
-      ← e2,
-      ← e3,
-    ))
+    rw (h4, h3, h2, h1, joined, join-bits 4 w0 (r .kind) (r .first) small, ← e0, ← e1, ← e2, ← e3)
+    (simp (put-next, length-append, length-toBits, add-assoc, append-assoc))
 
 -- a kind with a first field of at most ten bits has room in 16 bits, and in those of both
 pub head-fits : (k w x : ℕ) → k < kinds → w ≤ 10 → x < 2 ^ w
@@ -209,18 +197,7 @@ pub put-opening : (l : List ℕ) (p n trust : ℕ) (schedule : List ℕ) (l1 l2 
     → l4 ≡ put l p (openingBits n trust schedule)
 unfolding openingBits
 put-opening l p n trust schedule l1 l2 l3 l4 e1 e2 e3 e4 =
-    let t0 : List Bool = toBits 6 n in
-    let t1 : List Bool = t0 ++ trustBits n trust in
-    let t2 : List Bool = t1 ++ toBits 9 (length schedule) in
-    rw (
-      e4,
-      e3,
-      e2,
-      e1,
-      put-next l p t0 (trustBits n trust) (p + 6) (simp length-toBits),
-      put-next l p t1 (toBits 9 (length schedule)) (p + 6 + n) (simp (length-append, length-toBits, length-trust) (omega arith)),
-      put-next l p t2 (leaderBits schedule) (p + 6 + n + 9) (simp (length-append, length-toBits, length-trust) (omega arith)),
-    )
+    rw (e4, e3, e2, e1) (simp (put-next, length-append, length-toBits, length-trust, add-assoc, append-assoc))
 
 module _ (l : List ℕ) (p n trust : ℕ) (schedule : List ℕ) where
   -- the test of the buffer, which stands behind those of the opening

@@ -1,7 +1,6 @@
 -- `packed_log::bits::laid_over`: no shift loses a bit, and the sum stays within 24 bits.
 use borrow.Author.Needs.{needs}
-use Prim.Native.Nat.{_*_, _%_, _^_}
-use mathlib.Core.Path.{_≡_, refl}
+use mathlib.Core.Path.{refl}
 use native.Mathlib.Omega.{arith}
 use Rattle.packed_log.specs.Windows.{over}
 use Rattle.packed_log.proofs.Windows.{Shifted, shifted}
@@ -11,20 +10,13 @@ use Rattle.packed_log.proofs.bits.laid_over.Tie as tie
 fit : (c : tie.Start) → Shifted (c .args .bits) (c .args .behind) (c .args .width) (c .args .value)
 fit c = shifted (c .args .bits) (c .args .behind) (c .args .width) (c .args .value) (c .pre .0) (c .pre .1) (c .pre .2)
 
-add-result-2 : tie.Need-add-result-2
-unfolding over
-add-result-2 c =
-    let low : c .args .bits % (1 * 2 ^ c .args .behind % 2 ^ 32) ≡ c .args .bits % 2 ^ c .args .behind = rw (fit c .unit) in
-    omega (arith, fit c .high, fit c .middle, fit c .small)
-
 pub laid-over-spec : {M : Type 1} → statement M
 unfolding over
 laid-over-spec =
     tie.close (tie.spec
     (search needs) (search needs) (search needs) (search needs) (search needs) (search needs)
     (search needs)
-    (λ c. omega (arith, fit c .high, fit c .middle, fit c .small))
+    (λ c. omega (arith, fit c))
     (search needs) (search needs)
-    (λ c. omega (arith, fit c .unit, fit c .some))
-    add-result-2
+    (λ c. omega (arith, fit c)) (λ c. omega (arith, fit c))
     (λ c. rw (fit c .high, fit c .middle, fit c .unit) (refl, fit c .small)))

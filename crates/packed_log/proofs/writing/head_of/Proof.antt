@@ -5,15 +5,9 @@ use Rattle.packed_log.proofs.WritingLaws.{head-fits}
 use Rattle.packed_log.proofs.writing.head_of.Statement.{statement}
 use Rattle.packed_log.proofs.writing.head_of.Tie as tie
 
-add-result : tie.Need-add-result
-add-result c =
-    let fits = head-fits (c .args .kind) (c .args .width) (c .args .first) (c .pre .0) (c .pre .1) (c .pre .2) in
-    omega (arith, fits .0, fits .2)
-
-returns : tie.Need-returns
-returns c =
-    let fits = head-fits (c .args .kind) (c .args .width) (c .args .first) (c .pre .0) (c .pre .1) (c .pre .2) in
-    (fits .0, rw (fits .0) (fits .1))
-
 pub head-of-spec : {M : Type 1} → statement M
-head-of-spec = tie.close (tie.spec (λ c. search needs) (λ c. search needs) add-result returns)
+head-of-spec =
+    tie.close (tie.spec
+    (search needs) (search needs)
+    (λ c. omega (arith, head-fits _ _ _ (c .pre .0) (c .pre .1) (c .pre .2)))
+    (λ c. let fits = head-fits _ _ _ (c .pre .0) (c .pre .1) (c .pre .2) in (fits .0, rw (fits .0) (fits .1))))

@@ -31,7 +31,7 @@ use denote.Enum.Laws as enum
 use denote.Struct.Laws as struct
 use denote.Triple.Statement.{Contract, Triple}
 use denote.Triple.Call.{calls-at}
-use denote.Triple.Entry.{Args, Vals}
+use denote.Triple.Entry.{Args}
 use denote.Triple.Spec.{tripleOf}
 use denote.Triple.Table.{entered, cited}
 use denote.Triple.Clauses.{ensured, lasts}
@@ -68,11 +68,8 @@ module _ {M : Type 1} (𝓤 : URA M) (H : Heap 𝓤) (A : Atoms 𝓤) (W : Given
   abbrev passed : Args read-item.signature (l .κ′, tt)
   passed = (l .reader .log, (l .reader .at, tt))
 
-  abbrev passed-vals : Vals read-item.signature (l .κ′, tt)
-  passed-vals = (logVal (l .reader) ∷ [], (vint w64 (l .reader .at) ∷ [], tt))
-
   abbrev to : ReadItem 𝓤 H A mem run .Ghost
-  to = (((l .κ′, tt), (l .q′, tt), tt, passed, passed-vals), tt)
+  to = (((l .κ′, tt), (l .q′, tt), tt, passed, (logVal (l .reader) ∷ [], (vint w64 (l .reader .at) ∷ [], tt))), tt)
 
   -- what it asks
   asked : l .reader .at < 2 ^ 64 → ent 𝓤 (⋆ 𝓤 H A (log-token l 𝓤 ∷ ‵ (LogOwn (l .κ′) (l .reader)) ∷ [])) (ReadItem 𝓤 H A mem run .pre to)

@@ -27,7 +27,7 @@ use denote.Steps.{only, nothing}
 use denote.Struct.Laws as struct
 use denote.Triple.Statement.{Contract, Triple}
 use denote.Triple.Call.{calls-at}
-use denote.Triple.Entry.{Args, Vals}
+use denote.Triple.Entry.{Args}
 use denote.Triple.Spec.{tripleOf}
 use denote.Triple.Table.{entered, cited}
 use denote.Triple.Clauses.{ensured, lasts}
@@ -61,11 +61,8 @@ module _ {M : Type 1} (𝓤 : URA M) (H : Heap 𝓤) (A : Atoms 𝓤) (W : Given
   abbrev passed : Args read-opening.signature (l .κ′, tt)
   passed = (l .reader .log, tt)
 
-  abbrev passed-vals : Vals read-opening.signature (l .κ′, tt)
-  passed-vals = (logVal (l .reader) ∷ [], tt)
-
   abbrev to : ReadOpening 𝓤 H A mem run .Ghost
-  to = (((l .κ′, tt), (l .q′, tt), tt, passed, passed-vals), tt)
+  to = (((l .κ′, tt), (l .q′, tt), tt, passed, (logVal (l .reader) ∷ [], tt)), tt)
 
   -- what it asks
   asked : ent 𝓤 (⋆ 𝓤 H A (log-token l 𝓤 ∷ ‵ (LogOwn (l .κ′) (l .reader)) ∷ [])) (ReadOpening 𝓤 H A mem run .pre to)
