@@ -1,12 +1,12 @@
 -- Openings: one that stands at a log's start is read there, and what is read there stands there.
 use Prim.Native.Nat.{ℕ, zero, suc, _+_, _*_, _-_, _≤_, _<_}
 use mathlib.Core.Path.{_≡_, refl, sym, ap, _∙_}
-use mathlib.Core.Bool.{Bool, true}
+use mathlib.Core.Bool.{Bool, true, false}
 use mathlib.Core.List.{List, [], _∷_, _++_, append-assoc}
 use native.Mathlib.Nat.{add-zero}
 use native.Mathlib.Omega.{arith}
 use borrow.Author.Tests.{ltb-false, le-ltb, not-false}
-use lib.Dec.{eqb, eqb·suc-zero}
+use lib.Dec.{eqb, eqb·suc-zero, ltb}
 use lib.ListN.{length, getD, take, drop, length-append}
 use lib.Seq.{take-at}
 use Rattle.quorum.specs.Opening.{untrusted, openingRefusal}
@@ -102,87 +102,6 @@ record Parts (log : List ℕ) (n trust : ℕ) (schedule : List ℕ) : Type 0 whe
   leaders : leadersAt log (15 + n) (length schedule) ≡ schedule
   room : 15 + n + 5 * length schedule ≤ 8 * length log
 
--- the parts of an opening that stands at the log's start are read there
-parts-read : (log : List ℕ) (n trust : ℕ) (schedule : List ℕ) (u : List Bool) → Accepted n trust schedule
-    → Stands log 0 (openingBits n trust schedule ++ u) → Parts log n trust schedule
-unfolding openingBits
-parts-read log n trust schedule u tests h =
-    let k : ℕ = length schedule in
-    let offices : (1 ≤ n) × (n ≤ 32) = tests .count in
-    let epochs : (1 ≤ k) × (k ≤ 256) = tests .turns in
-    let count = value-read log 0 6 n _ (omega arith) (simp append-assoc at h) in
-    let at-length = rw length-trust at (stands-behind log 6 (trustBits n trust) _ (count .behind)) in
-    let turns = value-read log (6 + n) 9 k _ (omega arith) at-length in
-    let behind : 6 + n + 9 ≡ 15 + n = omega arith in
-    let at-leaders : Stands log (15 + n) (leaderBits schedule ++ u) = rw behind at (turns .behind) in
-    let rest : 8 * length log - (15 + n) ≡ 5 * k + length u = left-stands log (15 + n) _ at-leaders ∙ simp (length-append, length-leaders) in
-    record {
-      count = count .value;
-      word = trust-reads log 6 n trust _ (count .behind);
-      epochs = turns .value;
-      leaders = leaders-read log (15 + n) schedule u (λ i l. omega (arith, tests .leader i l)) at-leaders;
-      room = omega arith;
-    }
-
--- where the parts of an opening that is not refused are read from a log that is not too long, nothing is refused
-parts-clear : (log : List ℕ) (n trust : ℕ) (schedule : List ℕ) → length log ≤ 65536
-    → Accepted n trust schedule → Parts log n trust schedule → first (openingTestsIn log n (length schedule)) ≡ 0
-unfolding first choose
-parts-clear log n trust schedule small tests parts =
-    let k : ℕ = length schedule in
-    let there : thereIn log n k ≡ k = omega (arith, parts .room) in
-    rw (
-      le-ltb 65536 (length log) small,
-      le-ltb (left log 0) 6 (omega (arith, parts .room)),
-      tests .offices,
-      le-ltb (left log 6) (n + 9) (omega (arith, parts .room)),
-      tests .epochs,
-      there,
-      parts .leaders,
-      tests .leaders,
-      le-ltb k k (omega arith),
-      parts .word,
-      untrusted-again,
-      tests .third,
-    )
-
--- an opening that is not refused, and stands at the start of a log that is not too long, is read there
-pub opening-reads : (log : List ℕ) (n trust : ℕ) (schedule : List ℕ) (u : List Bool) → length log ≤ 65536
-    → openingRefusal n trust schedule ≡ 0 → Stands log 0 (openingBits n trust schedule ++ u)
-    → openingIn log ≡ opened (fresh n trust schedule) 0 (length (openingBits n trust schedule))
-unfolding openingIn openedBy freshBook fresh choose
-opening-reads log n trust schedule u small h stands =
-    let tests : Accepted n trust schedule = accepted n trust schedule h in
-    let parts : Parts log n trust schedule = parts-read log n trust schedule u tests stands in
-    let again : fill 2 n (digit 2 (fill 2 n (digit 2 trust))) ≡ fill 2 n (digit 2 trust) =
-    fill-again n (digit 2 trust) (λ q. digit-lt 2 trust q (omega arith)) in
-    rw (
-      parts .count,
-      parts .epochs,
-      parts-clear log n trust schedule small tests parts,
-      parts .word,
-      parts .leaders,
-      again,
-      length-opening,
-    )
-
--- an opening whose parts are read at the log's start stands there
-parts-stand : (log : List ℕ) (n trust : ℕ) (schedule : List ℕ) → Parts log n trust schedule
-    → Stands log 0 (openingBits n trust schedule ++ drop (15 + n + 5 * length schedule) (bits log))
-unfolding openingBits
-parts-stand log n trust schedule parts =
-    let k : ℕ = length schedule in
-    let bit : (q : ℕ) → q < n → field log (6 + q) 1 ≡ digit 2 trust q = word-digit log 6 n trust (parts .word) in
-    let room : 15 + n + 5 * k ≤ 8 * length log = parts .room in
-    let behind : 6 + n + 9 ≡ 15 + n = omega arith in
-    let at-start : Stands log 0 (toBits 6 n ++ drop 6 (bits log)) = rw (parts .count) at (stands-field log 0 6 (omega arith)) in
-    let at-trust : Stands log 6 (trustBits n trust ++ drop (6 + n) (bits log)) = trust-stands log 6 n trust (omega arith) bit in
-    let at-length : Stands log (6 + n) (toBits 9 k ++ drop (15 + n) (bits log)) =
-    rw (parts .epochs, behind) at (stands-field log (6 + n) 9 (omega arith)) in
-    let at-leaders : Stands log (15 + n) (leaderBits schedule ++ drop (15 + n + 5 * k) (bits log)) =
-    rw (parts .leaders) at (leaders-stand log (15 + n) k room) in
-    at-start ∙ rw (at-trust, at-length, at-leaders) (simp append-assoc)
-
 -- where an opening is read, nothing is refused
 opened-refusal : (a b : Register) (refusal next : ℕ)
     → choose (eqb refusal 0) (opened a 0 next) (opened b refusal 0) .refusal ≡ 0 → refusal ≡ 0
@@ -208,39 +127,94 @@ fine log n k h =
     let all : thereIn log n k ≡ k = omega arith in
     (rw (offices, length-leadersAt, epochs, rw all at (tests .1 .1 .1 .1 .1 .0), tests .1 .1 .1 .1 .1 .1 .1 .0), omega arith)
 
--- the parts of the opening that a register is opened by are those that were read
-register-parts : (log : List ℕ) (n trust : ℕ) (schedule : List ℕ) → openingRefusalIn log ≡ 0
-    → fresh (countIn log) (trustIn log (countIn log)) (leadersAt log (15 + countIn log) (lengthIn log (countIn log))) ≡ fresh n trust schedule
-    → Parts log n trust schedule
-unfolding fresh freshBook blank
-register-parts log n trust schedule none same =
-    let leaders : List ℕ = leadersAt log (15 + countIn log) (lengthIn log (countIn log)) in
-    let books : freshBook (countIn log) (trustIn log (countIn log)) leaders ≡ freshBook n trust schedule =
-    sym (book-register _) ∙ ap bookOf same ∙ book-register _ in
-    let count : countIn log ≡ n = ap (λ (b : Book). b .n) books in
-    let long : length leaders ≡ length schedule = ap (λ (b : Book). b .scheduled) books in
-    let epochs : lengthIn log n ≡ length schedule = rw (length-leadersAt, count) at long in
-    let table : leaderTable leaders ≡ leaderTable schedule = ap (λ (b : Book). b .leaders) books in
-    let word : fill 2 n (digit 2 (trustIn log n)) ≡ fill 2 n (digit 2 trust) = rw count at (ap (λ (b : Book). b .trust) books) in
-    record {
-      count = count;
-      word = sym (fill-again n (λ q. field log (6 + q) 1) (λ q. field-lt log (6 + q) 1)) ∙ word;
-      epochs = epochs;
-      leaders = rw (count, epochs) at (same-schedule leaders schedule long table);
-      room = rw (count, epochs) at (fine log (countIn log) (lengthIn log (countIn log)) none .1);
-    }
+module _ (log : List ℕ) (n trust : ℕ) (schedule : List ℕ) where
+  -- the parts of an opening that stands at the log's start are read there
+  parts-read : (u : List Bool) → Accepted n trust schedule → Stands log 0 (openingBits n trust schedule ++ u) → Parts log n trust schedule
+  unfolding openingBits
+  parts-read u tests h =
+      let k : ℕ = length schedule in
+      let offices : (1 ≤ n) × (n ≤ 32) = tests .count in
+      let epochs : (1 ≤ k) × (k ≤ 256) = tests .turns in
+      let count = value-read log 0 6 n _ (omega arith) (simp append-assoc at h) in
+      let at-length = rw length-trust at (stands-behind log 6 (trustBits n trust) _ (count .behind)) in
+      let turns = value-read log (6 + n) 9 k _ (omega arith) at-length in
+      let behind : 6 + n + 9 ≡ 15 + n = omega arith in
+      let at-leaders : Stands log (15 + n) (leaderBits schedule ++ u) = rw behind at (turns .behind) in
+      let rest : 8 * length log - (15 + n) ≡ 5 * k + length u = left-stands log (15 + n) _ at-leaders ∙ simp (length-append, length-leaders) in
+      record {
+        count = count .value;
+        word = trust-reads log 6 n trust _ (count .behind);
+        epochs = turns .value;
+        leaders = leaders-read log (15 + n) schedule u (λ i l. omega (arith, tests .leader i l)) at-leaders;
+        room = omega arith;
+      }
 
--- the opening that is read at the log's start stands there, up to the position behind it
-pub opening-stands : (log : List ℕ) (n trust : ℕ) (schedule : List ℕ)
-    → openingIn log .refusal ≡ 0 → openingIn log .register ≡ fresh n trust schedule
-    → Stands log 0 (openingBits n trust schedule ++ drop (openingIn log .next) (bits log))
-    × (openingIn log .next ≡ length (openingBits n trust schedule))
-unfolding openingIn openedBy choose
-opening-stands log n trust schedule accepts register =
-    let none : openingRefusalIn log ≡ 0 = opened-refusal _ _ (openingRefusalIn log) _ accepts in
-    let parts : Parts log n trust schedule = register-parts log n trust schedule none (rw none at register) in
-    let next : openingIn log .next ≡ 15 + n + 5 * length schedule = rw (none, parts .count, parts .epochs) in
-    (rw next (parts-stand log n trust schedule parts), next ∙ sym (length-opening n trust schedule))
+  -- where the parts of an opening that is not refused are read from a log that is not too long, nothing is refused
+  parts-clear : length log ≤ 65536 → Accepted n trust schedule → Parts log n trust schedule → first (openingTestsIn log n (length schedule)) ≡ 0
+  unfolding first choose
+  parts-clear small tests parts =
+      let k : ℕ = length schedule in
+      let short : ltb 65536 (length log) ≡ false = le-ltb 65536 (length log) small in
+      let has-count : ltb (left log 0) 6 ≡ false = le-ltb (left log 0) 6 (omega (arith, parts .room)) in
+      let has-length : ltb (left log 6) (n + 9) ≡ false = le-ltb (left log 6) (n + 9) (omega (arith, parts .room)) in
+      let there : thereIn log n k ≡ k = omega (arith, parts .room) in
+      let has-all : ltb k k ≡ false = le-ltb k k (omega arith) in
+      rw (short, has-count, tests .offices, has-length, tests .epochs, there, parts .leaders, tests .leaders, has-all, parts .word, untrusted-again, tests .third)
+
+  -- an opening that is not refused, and stands at the start of a log that is not too long, is read there
+  pub opening-reads : (u : List Bool) → length log ≤ 65536 → openingRefusal n trust schedule ≡ 0 → Stands log 0 (openingBits n trust schedule ++ u)
+      → openingIn log ≡ opened (fresh n trust schedule) 0 (length (openingBits n trust schedule))
+  unfolding openingIn openedBy freshBook fresh choose
+  opening-reads u small h stands =
+      let tests : Accepted n trust schedule = accepted n trust schedule h in
+      let parts : Parts log n trust schedule = parts-read u tests stands in
+      let again : fill 2 n (digit 2 (fill 2 n (digit 2 trust))) ≡ fill 2 n (digit 2 trust) = fill-again n (digit 2 trust) (λ q. digit-lt 2 trust q (omega arith)) in
+      rw (parts .count, parts .epochs, parts-clear small tests parts, parts .word, parts .leaders, again, length-opening)
+
+  -- an opening whose parts are read at the log's start stands there
+  parts-stand : Parts log n trust schedule → Stands log 0 (openingBits n trust schedule ++ drop (15 + n + 5 * length schedule) (bits log))
+  unfolding openingBits
+  parts-stand parts =
+      let k : ℕ = length schedule in
+      let bit : (q : ℕ) → q < n → field log (6 + q) 1 ≡ digit 2 trust q = word-digit log 6 n trust (parts .word) in
+      let room : 15 + n + 5 * k ≤ 8 * length log = parts .room in
+      let behind : 6 + n + 9 ≡ 15 + n = omega arith in
+      let at-start : Stands log 0 (toBits 6 n ++ drop 6 (bits log)) = rw (parts .count) at (stands-field log 0 6 (omega arith)) in
+      let at-trust : Stands log 6 (trustBits n trust ++ drop (6 + n) (bits log)) = trust-stands log 6 n trust (omega arith) bit in
+      let at-length : Stands log (6 + n) (toBits 9 k ++ drop (15 + n) (bits log)) = rw (parts .epochs, behind) at (stands-field log (6 + n) 9 (omega arith)) in
+      let at-leaders : Stands log (15 + n) (leaderBits schedule ++ drop (15 + n + 5 * k) (bits log)) = rw (parts .leaders) at (leaders-stand log (15 + n) k room) in
+      at-start ∙ rw (at-trust, at-length, at-leaders) (simp append-assoc)
+
+  -- the parts of the opening that a register is opened by are those that were read
+  register-parts : openingRefusalIn log ≡ 0
+      → fresh (countIn log) (trustIn log (countIn log)) (leadersAt log (15 + countIn log) (lengthIn log (countIn log))) ≡ fresh n trust schedule
+      → Parts log n trust schedule
+  unfolding fresh freshBook blank
+  register-parts none same =
+      let leaders : List ℕ = leadersAt log (15 + countIn log) (lengthIn log (countIn log)) in
+      let books : freshBook (countIn log) (trustIn log (countIn log)) leaders ≡ freshBook n trust schedule = sym (book-register _) ∙ ap bookOf same ∙ book-register _ in
+      let count : countIn log ≡ n = ap (λ (b : Book). b .n) books in
+      let long : length leaders ≡ length schedule = ap (λ (b : Book). b .length) books in
+      let epochs : lengthIn log n ≡ length schedule = rw (length-leadersAt, count) at long in
+      let table : leaderTable leaders ≡ leaderTable schedule = ap (λ (b : Book). b .leaders) books in
+      let word : fill 2 n (digit 2 (trustIn log n)) ≡ fill 2 n (digit 2 trust) = rw count at (ap (λ (b : Book). b .trust) books) in
+      record {
+        count = count;
+        word = sym (fill-again n (λ q. field log (6 + q) 1) (λ q. field-lt log (6 + q) 1)) ∙ word;
+        epochs = epochs;
+        leaders = rw (count, epochs) at (same-schedule leaders schedule long table);
+        room = rw (count, epochs) at (fine log (countIn log) (lengthIn log (countIn log)) none .1);
+      }
+
+  -- the opening that is read at the log's start stands there, up to the position behind it
+  pub opening-stands : openingIn log .refusal ≡ 0 → openingIn log .register ≡ fresh n trust schedule
+      → Stands log 0 (openingBits n trust schedule ++ drop (openingIn log .next) (bits log)) × (openingIn log .next ≡ length (openingBits n trust schedule))
+  unfolding openingIn openedBy choose
+  opening-stands accepts register =
+      let none : openingRefusalIn log ≡ 0 = opened-refusal _ _ (openingRefusalIn log) _ accepts in
+      let parts : Parts log n trust schedule = register-parts none (rw none at register) in
+      let next : openingIn log .next ≡ 15 + n + 5 * length schedule = rw (none, parts .count, parts .epochs) in
+      (rw next (parts-stand parts), next ∙ sym (length-opening n trust schedule))
 
 -- where the opening of a log is not refused, its parts open a register, and that is the one that is given
 pub opening-opens : (log : List ℕ) → openingIn log .refusal ≡ 0
