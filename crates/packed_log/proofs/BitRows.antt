@@ -10,8 +10,7 @@ use lib.ListN.{length, take, drop, set, replicate, length-append, length-drop, l
 use lib.Pow.{pow-add, pow-pos, mod-pow-add, high, low, shr-shr}
 use lib.Seq.{sets, sets-eq, set-append-left, drop-append-le, take-append-le}
 use Rattle.words.specs.Tests.{choose}
-use Rattle.packed_log.specs.Bits.{toBits, num}
-use Rattle.packed_log.specs.Windows.{over}
+use Rattle.packed_log.specs.{Bits.toBits, Bits.num, Windows.over}
 
 -- w bits are w long
 pub length-toBits : (w v : ℕ) → length (toBits w v) ≡ w

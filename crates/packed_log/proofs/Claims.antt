@@ -3,25 +3,23 @@ use Prim.Native.Nat.{ℕ, _+_, _*_, _≤_}
 use mathlib.Core.Path.{_≡_, sym, ap, _∙_}
 use mathlib.Core.Bool.{Bool, false}
 use mathlib.Core.List.{List, [], _∷_, _++_, append-assoc, append-nil}
-use native.Mathlib.Nat.{zero-add}
-use native.Mathlib.Omega.{arith}
+use native.Mathlib.{Nat.zero-add, Omega.arith}
 use borrow.Author.Tests.{le-ltb}
 use lib.ListN.{length, take, drop, length-append, length-take, take-append-drop, drop-of-length-le}
 use lib.Seq.{sets-eq}
-use Rattle.quorum.specs.Opening.{openingRefusal}
-use Rattle.words.specs.Refusals.{first}
-use Rattle.words.specs.Tests.{choose}
+use Rattle.words.specs.{Refusals.first, Tests.choose}
 use Rattle.words.proofs.Tests.{either-false-left, either-false-right}
+use Rattle.quorum.specs.Opening.{openingRefusal}
 use Rattle.register.specs.declared.step.Step.{Step}
 use Rattle.packed_log.specs.Bits.{Bytes, bits, bytes, put}
 use Rattle.packed_log.specs.Rows.{rowOf}
 use Rattle.packed_log.specs.Writing.{stepBits, endBits, room, short, openingRefused, stepRefused, endRefused, wrote, laid}
 use Rattle.packed_log.specs.Logs.{Case, stepsBits, bodyBits, packed, anyWide, Filled, afterCall, afterStepCalls, afterOpeningCall, afterEndCall, afterCalls}
+use Rattle.packed_log.specs.Claims.{ReadsBack, OneForm, CallsPack}
 use Rattle.packed_log.proofs.BitsLaws.{length-bits, length-put, put-put, put-left, put-none, bytes-bits}
 use Rattle.packed_log.proofs.Windows.{bytes-drop}
 use Rattle.packed_log.proofs.WritingLaws.{row-fits, end-room, opening-room}
 use Rattle.packed_log.proofs.LogsReadBack.{caseBits, packed-row, firstBits, log-reads, log-stands}
-use Rattle.packed_log.specs.Claims.{ReadsBack, OneForm, CallsPack}
 
 -- the buffer with the row t laid over it from its start on, and the position behind t
 abbrev filled : (buffer : List ℕ) → (t : List Bool) → Filled

@@ -7,29 +7,23 @@ use native.Mathlib.Omega.{arith}
 use borrow.Author.Tests.{ltb-false, leb-false, eqb-true, not-false, eq-eqb, ne-eqb, ltb-true, lt-ltb}
 use lib.Dec.{eqb, eqb·suc-zero, ltb, T}
 use lib.ListN.{length, drop, length-append, drop-of-length-le}
-use Rattle.words.specs.Tests.{choose, both}
-use Rattle.words.specs.Refusals.{first}
+use lib.Pow.{pow-pos}
+use Rattle.words.specs.{Tests.choose, Tests.both, Refusals.first}
 use Rattle.words.proofs.Tests.{both-false, both-fails, both-left, both-right}
 use Rattle.words.proofs.Turns.{turns}
 use Rattle.words.proofs.Refusals.{positive, Clear, first-clear}
-use Rattle.packed_log.specs.declared.item.Read.{Read}
-use Rattle.packed_log.specs.declared.item.Skipped.{Skipped}
+use Rattle.register.specs.declared.step.Step.{Step}
+use Rattle.packed_log.specs.declared.{item.Read.Read, item.Skipped.Skipped, row.Row.Row, item.Item.Item}
+use Rattle.packed_log.specs.declared.item.Item.the-variants as items
 use Rattle.packed_log.specs.Bits.{num, field, toBits, bits}
 use Rattle.packed_log.specs.Widths.{kinds, fields, width, due}
 use Rattle.packed_log.specs.Rows.{rowOf, stepOf, Narrow}
 use Rattle.packed_log.specs.Items.{left, kindAt, rowAt, padded, itemTests, refusalAt, skipped, skippedAt, read, withFields, itemAt, numbers, numbersAt}
-use Rattle.packed_log.proofs.Judging.{judging}
-use Rattle.packed_log.proofs.BitsLaws.{field-lt, length-bits}
-use Rattle.packed_log.proofs.RowLaws.{row-step, step-row, narrow}
-use lib.Pow.{pow-pos}
-use Rattle.register.specs.declared.step.Step.{Step}
-use Rattle.packed_log.specs.declared.row.Row.{Row}
-use Rattle.packed_log.specs.declared.item.Item.{Item}
 use Rattle.packed_log.specs.Writing.{rowBits, stepBits, endBits, wide}
-use Rattle.packed_log.proofs.BitRows.{zero-bits}
+use Rattle.packed_log.proofs.{Judging.judging, BitsLaws.field-lt, BitsLaws.length-bits, BitRows.zero-bits}
+use Rattle.packed_log.proofs.RowLaws.{row-step, step-row, narrow}
 use Rattle.packed_log.proofs.WritingLaws.{length-row, length-end}
 use Rattle.packed_log.proofs.Standing.{Stands, left-stands, value-read, stands-field}
-use Rattle.packed_log.specs.declared.item.Item.the-variants as items
 
 -- what the tests of an item say where nothing is refused
 pub record Whole (log : List ℕ) (p : ℕ) : Type 0 where

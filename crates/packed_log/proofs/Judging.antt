@@ -1,7 +1,6 @@
 -- For `search judging`: tests that compare what calls have counted or read, in lists of tests that code makes by early returns.
 use Prim.Native.Nat.{ℕ, _≤_, _<_}
-use mathlib.Core.Path.{_≡_}
-use mathlib.Core.Bool.{true, false}
+use mathlib.Core.{Path._≡_, Bool.true, Bool.false}
 use borrow.Author.Tests.{lt-ltb, le-ltb}
 use lib.Dec.{ltb}
 use Rattle.words.proofs.Turns.{turns}

@@ -4,25 +4,20 @@ use mathlib.Core.Path.{_≡_, refl, sym, ap, _∙_}
 use mathlib.Core.Bool.{Bool, false}
 use mathlib.Core.List.{List, [], _∷_, _++_, append-assoc}
 use native.Mathlib.Nat.{add-zero, add-assoc, zero-add}
+use native.Mathlib.Omega.{arith}
 use lib.ListN.{length, drop, length-append, length-replicate}
 use Rattle.words.proofs.Tests.{either-false-left, either-false-right}
+use Rattle.quorum.specs.Opening.{openingRefusal}
 use Rattle.register.specs.declared.step.Step.{Step}
-use Rattle.packed_log.specs.declared.item.Read.{Read}
-use Rattle.packed_log.specs.Bits.{bits}
-use Rattle.packed_log.specs.Items.{read, itemAt}
+use Rattle.register.specs.Opening.{fresh}
+use Rattle.packed_log.specs.declared.{item.Read.Read, opening.Opening.Opening}
+use Rattle.packed_log.specs.declared.item.Item.the-variants as items
+use Rattle.packed_log.specs.{Bits.bits, Items.read, Items.itemAt, Openings.opened, Openings.openingIn}
 use Rattle.packed_log.specs.Writing.{stepBits, endBits, openingBits}
 use Rattle.packed_log.specs.Logs.{stepsBits, anyWide, ReadsFrom, Case, bodyBits, packed, Reads}
-use Rattle.packed_log.proofs.Standing.{Stands, stands-behind}
+use Rattle.packed_log.proofs.{Standing.Stands, Standing.stands-behind, BitRows.length-toBits, BitsLaws.bits-bytes}
 use Rattle.packed_log.proofs.ItemLaws.{step-reads, end-reads, Found, item-found}
-use native.Mathlib.Omega.{arith}
-use Rattle.quorum.specs.Opening.{openingRefusal}
-use Rattle.register.specs.Opening.{fresh}
-use Rattle.packed_log.specs.declared.opening.Opening.{Opening}
-use Rattle.packed_log.specs.Openings.{opened, openingIn}
-use Rattle.packed_log.proofs.BitRows.{length-toBits}
-use Rattle.packed_log.proofs.BitsLaws.{bits-bytes}
 use Rattle.packed_log.proofs.OpeningsReadBack.{opening-reads, opening-stands}
-use Rattle.packed_log.specs.declared.item.Item.the-variants as items
 
 -- the bits of some steps from position p on, and of the end behind them
 abbrev pub restBits : (ss : List Step) → (p : ℕ) → List Bool

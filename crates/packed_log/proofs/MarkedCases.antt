@@ -1,30 +1,25 @@
 -- The cases that the paper marks P hold, by computation; and a case that can be packed.
 use Prim.Native.Nat.{ℕ, _+_, _*_, _-_, _^_, _≤_}
 use mathlib.Core.Path.{_≡_, refl, sym, ap, _∙_}
-use mathlib.Core.Bool.{false}
-use mathlib.Core.List.{[], _∷_}
+use mathlib.Core.{Bool.false, List.[], List._∷_}
 use native.Mathlib.Omega.{arith}
 use borrow.Author.Tests.{lt-leb}
 use lib.ListN.{length, length-append}
+use Rattle.words.specs.Tests.{choose, either, any}
+use Rattle.words.specs.Sums.{weigh, unit, tally}
+use Rattle.words.specs.{Digits.digit, Refusals.first}
+use Rattle.words.proofs.Tests.{between-make}
 use Rattle.quorum.specs.Enough.{enough}
 use Rattle.quorum.specs.Opening.{untrusted, tooMany, stray, openingRefusal}
-use Rattle.words.specs.Tests.{choose, either, any}
-use Rattle.words.proofs.Tests.{between-make}
-use Rattle.words.specs.Sums.{weigh, unit, tally}
-use Rattle.words.specs.Digits.{digit}
-use Rattle.words.specs.Refusals.{first}
 use Rattle.register.specs.declared.step.Step.the-variants.{Propose, Advance}
 use Rattle.register.specs.Books.{office, block}
 use Rattle.packed_log.specs.Bits.{toBits, num, pack, bytes}
-use Rattle.packed_log.specs.Rows.{rowOf}
-use Rattle.packed_log.specs.Widths.{fields, width}
+use Rattle.packed_log.specs.{Rows.rowOf, Widths.fields, Widths.width}
 use Rattle.packed_log.specs.Writing.{trustBits, leaderBits, openingBits, endBits, wide}
 use Rattle.packed_log.specs.Logs.{Case, stepsBits, bodyBits, packed, anyWide, Packable}
 use Rattle.packed_log.specs.MarkedCases.{Says, AllHold, marked}
-use Rattle.packed_log.proofs.BitsLaws.{length-bits}
-use Rattle.packed_log.proofs.RowLaws.{_&_}
+use Rattle.packed_log.proofs.{BitsLaws.length-bits, RowLaws._&_, LogsReadBack.packed-row}
 use Rattle.packed_log.proofs.WritingLaws.{length-row, length-opening, length-end}
-use Rattle.packed_log.proofs.LogsReadBack.{packed-row}
 
 -- no leader is stray where office 0 leads
 led : (n : ℕ) → 1 ≤ n → stray n (0 ∷ []) ≡ false

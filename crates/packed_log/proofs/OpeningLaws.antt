@@ -3,26 +3,23 @@ use Prim.Native.Nat.{ℕ, _≤_, _<_, zero, suc, _+_, _*_, _%_, _^_}
 use mathlib.Core.Path.{_≡_, refl, sym, ap, _∙_}
 use mathlib.Core.Bool.{true, false, Bool, not}
 use mathlib.Core.List.{List, [], _∷_, _++_}
+use native.Mathlib.{Nat.add-zero, Nat.mod-eq-of-lt, Numerals.add-one, Omega.arith}
 use borrow.Author.Tests.{not-false, leb-false, ltb-false, lt-ltb, ne-eqb}
 use lib.Dec.{leb, eqb, ltb}
 use lib.ListN.{length, getD, set, take, length-set}
-use Rattle.quorum.specs.Opening.{untrusted, tooMany, stray, openingTests, openingRefusal}
+use lib.Seq.{take-suc, take-set-le, getD-set-same}
 use Rattle.words.specs.Tests.{both, between, choose, any}
+use Rattle.words.specs.Refusals.{_⇒_, first}
 use Rattle.words.proofs.Tests.{any-none, between-true, clash, between-make}
 use Rattle.words.proofs.Refusals.{positive, Clear, first-clear, first-before, first-behind}
-use native.Mathlib.Nat.{add-zero, mod-eq-of-lt}
-use native.Mathlib.Numerals.{add-one}
-use native.Mathlib.Omega.{arith}
-use lib.Seq.{take-suc, take-set-le, getD-set-same}
 use Rattle.words.proofs.Digits.{pow-within, fill-next}
-use Rattle.packed_log.specs.Bits.{field}
-use Rattle.packed_log.specs.declared.opening.Opening.{Opening}
-use Rattle.packed_log.specs.Openings.{trustIn, leadersAt, countIn, lengthIn, thereIn, frontTests, leaderTests, openingTestsIn, opened, openedBy, openingIn}
-use Rattle.packed_log.proofs.BitsLaws.{field-lt}
-use Rattle.words.specs.Refusals.{_⇒_, first}
+use Rattle.quorum.specs.Opening.{untrusted, tooMany, stray, openingTests, openingRefusal}
 use Rattle.register.specs.declared.table.Opened.{Opened}
 use Rattle.register.specs.Opening.{fresh, closed, opening}
-use Rattle.packed_log.specs.Items.{left}
+use Rattle.packed_log.specs.declared.opening.Opening.{Opening}
+use Rattle.packed_log.specs.{Bits.field, Items.left}
+use Rattle.packed_log.specs.Openings.{trustIn, leadersAt, countIn, lengthIn, thereIn, frontTests, leaderTests, openingTestsIn, opened, openedBy, openingIn}
+use Rattle.packed_log.proofs.BitsLaws.{field-lt}
 
 -- what the tests of an opening say, and what that means
 pub record Accepted (n trust : ℕ) (schedule : List ℕ) : Type 0 where

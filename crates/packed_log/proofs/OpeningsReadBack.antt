@@ -3,30 +3,25 @@ use Prim.Native.Nat.{ℕ, zero, suc, _+_, _*_, _-_, _≤_, _<_}
 use mathlib.Core.Path.{_≡_, refl, sym, ap, _∙_}
 use mathlib.Core.Bool.{Bool, true, false}
 use mathlib.Core.List.{List, [], _∷_, _++_, append-assoc}
-use native.Mathlib.Nat.{add-zero}
-use native.Mathlib.Omega.{arith}
+use native.Mathlib.{Nat.add-zero, Omega.arith}
 use borrow.Author.Tests.{ltb-false, le-ltb, not-false}
 use lib.Dec.{eqb, eqb·suc-zero, ltb}
 use lib.ListN.{length, getD, take, drop, length-append}
 use lib.Seq.{take-at}
-use Rattle.quorum.specs.Opening.{untrusted, openingRefusal}
 use Rattle.words.specs.Tests.{choose, both, between}
-use Rattle.words.specs.Digits.{digit, fill}
+use Rattle.words.specs.{Digits.digit, Digits.fill, Refusals.first}
 use Rattle.words.proofs.Digits.{digit-lt, digit-fill, fill-ext}
-use Rattle.words.specs.Refusals.{first}
 use Rattle.words.proofs.Refusals.{positive, Clear, first-clear}
 use Rattle.words.proofs.Sums.{tally-ext}
-use Rattle.register.specs.declared.table.Register.{Register}
-use Rattle.register.specs.declared.book.Book.{Book}
-use Rattle.register.specs.Books.{bookOf}
+use Rattle.quorum.specs.Opening.{untrusted, openingRefusal}
+use Rattle.register.specs.{declared.table.Register.Register, declared.book.Book.Book, Books.bookOf}
 use Rattle.register.specs.Opening.{leaderTable, blank, freshBook, fresh, opening}
 use Rattle.register.proofs.Typing.{book-register}
 use Rattle.packed_log.specs.Bits.{toBits, bits, field}
 use Rattle.packed_log.specs.Items.{left}
 use Rattle.packed_log.specs.Openings.{countIn, trustIn, lengthIn, leadersAt, thereIn, openingTestsIn, openingRefusalIn, opened, openedBy, openingIn}
 use Rattle.packed_log.specs.Writing.{trustBits, leaderBits, openingBits}
-use Rattle.packed_log.proofs.BitRows.{bit-row}
-use Rattle.packed_log.proofs.BitsLaws.{field-lt}
+use Rattle.packed_log.proofs.{BitRows.bit-row, BitsLaws.field-lt}
 use Rattle.packed_log.proofs.WritingLaws.{length-trust, length-leaders, length-opening}
 use Rattle.packed_log.proofs.OpeningLaws.{Accepted, accepted, length-leadersAt}
 use Rattle.packed_log.proofs.Standing.{Stands, left-stands, stands-behind, value-read, stands-field}

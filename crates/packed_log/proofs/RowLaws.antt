@@ -2,25 +2,22 @@
 use Prim.Native.Nat.{ℕ, zero, suc, _+_, _*_, _-_, _/_, _%_, _^_, _≤_, _<_}
 use mathlib.Core.Path.{_≡_, refl, ap, _∙_}
 use mathlib.Core.Bool.{Bool, true, false}
+use mathlib.Core.List.{List}
 use native.Mathlib.Omega.{arith}
+use native.Mathlib.Nat.{add-zero, add-suc, suc-add, lt-of-lt-of-le}
 use borrow.Author.Tests.{eqb-true, leb-true, leb-false}
 use lib.Dec.{eqb, leb, T, eqb·suc-zero, leb→le}
+use lib.Pow.{pow-mono}
+use mir.{Syntax.w8, Val.Fits}
 use Rattle.words.specs.Tests.{both, all, choose}
 use Rattle.words.proofs.Tests.{both-left, both-right, all-at, either-false-left, either-false-right}
-use Rattle.packed_log.specs.Widths.{kinds, fields, width}
-use mathlib.Core.List.{List}
-use native.Mathlib.Nat.{add-zero, add-suc, suc-add, lt-of-lt-of-le}
-use lib.Pow.{pow-mono}
-use mir.Syntax.{w8}
-use mir.Val.{Fits}
-use Rattle.register.specs.declared.sorts.Kind.{Kind}
+use Rattle.register.specs.declared.{sorts.Kind.Kind, step.Step.Step}
 use Rattle.register.specs.declared.sorts.Kind.the-variants.{Proposal, Vote as AVote}
-use Rattle.register.specs.declared.step.Step.{Step}
-use Rattle.packed_log.specs.declared.row.Row.{Row}
-use Rattle.packed_log.specs.Rows.{row, kindNumber, kindNumbered, rowOf, pick, stepsOf, stepOf, Narrow}
-use Rattle.packed_log.specs.Items.{rowAt}
-use Rattle.packed_log.specs.Writing.{wide}
 use Rattle.register.specs.declared.step.Step.the-variants as steps
+use Rattle.packed_log.specs.declared.row.Row.{Row}
+use Rattle.packed_log.specs.Widths.{kinds, fields, width}
+use Rattle.packed_log.specs.Rows.{row, kindNumber, kindNumbered, rowOf, pick, stepsOf, stepOf, Narrow}
+use Rattle.packed_log.specs.{Items.rowAt, Writing.wide}
 
 infixr 5 _&_
 -- a pair, for a long chain of facts

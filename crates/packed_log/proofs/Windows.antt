@@ -7,9 +7,8 @@ use native.Mathlib.Nat.{add-zero, div-add-mod, div-mul-le-self, div-one, lt-of-l
 use native.Mathlib.Omega.{arith}
 use lib.ListN.{length, getD, set, take, drop, replicate, length-append, length-drop}
 use lib.Pow.{pow-pos, shl-exact}
-use mir.Syntax.{w8}
-use mir.Val.{Fits}
 use lib.Seq.{sets, length-sets, take-at, drop-drop, getD-drop}
+use mir.{Syntax.w8, Val.Fits}
 use Rattle.packed_log.specs.Bits.{Bytes, toBits, num, bits, pack, field, put}
 use Rattle.packed_log.specs.Windows.{window, over}
 use Rattle.packed_log.proofs.BitRows.{length-toBits, num-lt, num-append, num-toBits, num-part, num-sets}

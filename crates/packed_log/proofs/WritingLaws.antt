@@ -4,31 +4,23 @@ use mathlib.Core.Path.{_≡_, refl, sym, _∙_}
 use mathlib.Core.Bool.{Bool, true, false, _||_}
 use mathlib.Core.List.{List, [], _∷_, _++_, append-assoc, append-nil}
 use native.Mathlib.Nat.{add-assoc, zero-add, suc-add, mul-le-mul-right, mod-eq-of-lt, min-le-left, min-le-right}
-use native.Mathlib.Numerals.{add-one}
-use native.Mathlib.Omega.{arith}
+use native.Mathlib.{Numerals.add-one, Omega.arith}
 use borrow.Author.Tests.{ltb-false, ne-eqb}
-use lib.Dec.{leb}
+use lib.{Dec.leb, Pow.pow-add, Pow.pow-mono, Seq.length-take-le, Seq.take-suc}
 use lib.ListN.{length, replicate, length-append, length-replicate, getD, take}
-use lib.Pow.{pow-add, pow-mono}
 use Rattle.words.specs.Tests.{choose, both, either}
 use Rattle.words.specs.Refusals.{_⇒_, first, Refusal}
-use Rattle.words.proofs.Tests.{or-either}
+use Rattle.words.specs.Digits.{digit}
+use Rattle.words.proofs.{Tests.or-either, Digits.digit-lt}
 use Rattle.words.proofs.Turns.{hit, skip, none as nothing}
 use Rattle.words.proofs.Refusals.{positive, Clear, first-clear, first-before, first-behind}
-use Rattle.packed_log.specs.declared.row.Row.{Row}
-use Rattle.packed_log.specs.declared.writing.Wrote.{Wrote}
-use Rattle.packed_log.specs.Bits.{toBits, put}
-use Rattle.packed_log.specs.Rows.{Narrow}
+use Rattle.quorum.specs.Opening.{openingTests, openingRefusal}
+use Rattle.packed_log.specs.declared.{row.Row.Row, writing.Wrote.Wrote}
+use Rattle.packed_log.specs.{Bits.toBits, Bits.put, Rows.Narrow}
 use Rattle.packed_log.specs.Widths.{kinds, width, due}
 use Rattle.packed_log.specs.Writing.{trustBits, leaderBits, openingBits, rowBits, endBits, wide, room, short, HasRoom, rowRefused, endRefused, wrote, laid, openingRefused}
 use Rattle.packed_log.proofs.BitRows.{length-toBits, zero-bits, join-bits, bit-row}
-use Rattle.packed_log.proofs.BitsLaws.{put-put}
-use Rattle.packed_log.proofs.RowLaws.{narrow}
-use Rattle.packed_log.proofs.Judging.{counts-less, counts-most}
-use lib.Seq.{length-take-le, take-suc}
-use Rattle.quorum.specs.Opening.{openingTests, openingRefusal}
-use Rattle.words.specs.Digits.{digit}
-use Rattle.words.proofs.Digits.{digit-lt}
+use Rattle.packed_log.proofs.{BitsLaws.put-put, RowLaws.narrow, Judging.counts-less, Judging.counts-most}
 
 -- what is laid where the row before it ends
 pub put-next : (l : List ℕ) (p : ℕ) (t u : List Bool) (q : ℕ) → q ≡ p + length t → put (put l p t) q u ≡ put l p (t ++ u)

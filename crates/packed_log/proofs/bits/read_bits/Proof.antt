@@ -2,8 +2,7 @@
 use borrow.Author.Needs.{needs}
 use Prim.Native.Nat.{_*_, _%_, _^_}
 use mathlib.Core.Path.{_≡_, refl}
-use native.Mathlib.Nat.{lt-of-lt-of-le, mod-lt}
-use native.Mathlib.Omega.{arith}
+use native.Mathlib.{Nat.lt-of-lt-of-le, Nat.mod-lt, Omega.arith}
 use lib.Pow.{pow-mono, pow-pos}
 use Rattle.packed_log.specs.Bits.{num, field}
 use Rattle.packed_log.proofs.Windows.{unit-shift, field-window}

@@ -1,6 +1,5 @@
 -- `packed_log::item::is_ill_ended`: looks at the pad where the kind is that of the end.
-use borrow.Author.Needs.{needs}
-use borrow.Author.Tests.{eq-eqb, ne-eqb}
+use borrow.Author.{Needs.needs, Tests.eq-eqb, Tests.ne-eqb}
 use Rattle.words.specs.Tests.{both}
 use Rattle.packed_log.proofs.item.is_ill_ended.Statement.{statement}
 use Rattle.packed_log.proofs.item.is_ill_ended.Tie as tie

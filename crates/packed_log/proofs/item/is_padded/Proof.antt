@@ -1,6 +1,5 @@
 -- `packed_log::item::is_padded`: fewer than eight bits are left, and their number is 0.
-use borrow.Author.Needs.{needs}
-use borrow.Author.Tests.{lt-ltb, le-ltb}
+use borrow.Author.{Needs.needs, Tests.lt-ltb, Tests.le-ltb}
 use Rattle.words.specs.Tests.{both}
 use Rattle.packed_log.specs.Items.{padded}
 use Rattle.packed_log.proofs.item.is_padded.Statement.{statement}

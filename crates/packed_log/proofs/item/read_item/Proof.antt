@@ -1,7 +1,6 @@
 -- `packed_log::item::read_item`: what was skipped, a step with its fields.
-use borrow.Author.Needs.{needs}
+use borrow.Author.{Needs.needs, Tests.eq-eqb, Tests.ne-eqb}
 use native.Mathlib.Omega.{arith}
-use borrow.Author.Tests.{eq-eqb, ne-eqb}
 use Rattle.words.specs.Tests.{choose}
 use Rattle.packed_log.specs.Items.{withFields}
 use Rattle.packed_log.proofs.RowLaws.{kind-read}

@@ -3,8 +3,7 @@ use borrow.Author.Needs.{needs}
 use Prim.Native.Nat.{_≤_}
 use mathlib.Core.Path.{sym}
 use native.Mathlib.Omega.{arith}
-use lib.ListN.{length}
-use lib.Seq.{length-take-le}
+use lib.{ListN.length, Seq.length-take-le}
 use Rattle.packed_log.proofs.OpeningLaws.{leaders-refused, leaders-opened}
 use Rattle.packed_log.proofs.opening.open_with.Statement.{statement}
 use Rattle.packed_log.proofs.opening.open_with.Tie as tie

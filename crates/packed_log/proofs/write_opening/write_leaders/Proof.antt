@@ -5,10 +5,8 @@ use mathlib.Core.Path.{_≡_, sym, ap, _∙_}
 use native.Mathlib.Omega.{arith}
 use lib.ListN.{length, getD, take}
 use lib.Seq.{take-length}
-use Rattle.packed_log.specs.Bits.{put}
-use Rattle.packed_log.specs.Writing.{leaderBits}
-use Rattle.packed_log.proofs.BitsLaws.{put-none, length-put}
-use Rattle.packed_log.proofs.WritingLaws.{next-leader-bits}
+use Rattle.packed_log.specs.{Bits.put, Writing.leaderBits}
+use Rattle.packed_log.proofs.{BitsLaws.put-none, BitsLaws.length-put, WritingLaws.next-leader-bits}
 use Rattle.packed_log.proofs.write_opening.write_leaders.Statement.{statement}
 use Rattle.packed_log.proofs.write_opening.write_leaders.Tie as tie
 

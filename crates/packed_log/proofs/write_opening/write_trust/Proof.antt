@@ -5,10 +5,8 @@ use mathlib.Core.Path.{_≡_, sym, ap, _∙_}
 use native.Mathlib.Omega.{arith}
 use lib.ListN.{length}
 use Rattle.words.proofs.Digits.{digit-lt}
-use Rattle.packed_log.specs.Bits.{put}
-use Rattle.packed_log.specs.Writing.{trustBits}
-use Rattle.packed_log.proofs.BitsLaws.{put-none, length-put}
-use Rattle.packed_log.proofs.WritingLaws.{next-trust-bit}
+use Rattle.packed_log.specs.{Bits.put, Writing.trustBits}
+use Rattle.packed_log.proofs.{BitsLaws.put-none, BitsLaws.length-put, WritingLaws.next-trust-bit}
 use Rattle.packed_log.proofs.write_opening.write_trust.Statement.{statement}
 use Rattle.packed_log.proofs.write_opening.write_trust.Tie as tie
 

@@ -1,8 +1,7 @@
 -- `packed_log::writing::row_refusal`: makes the tests of a row in their order.
 use borrow.Author.Needs.{needs}
 use Rattle.packed_log.specs.Writing.{rowRefused}
-use Rattle.packed_log.proofs.Judging.{judging}
-use Rattle.packed_log.proofs.WritingLaws.{length-row}
+use Rattle.packed_log.proofs.{Judging.judging, WritingLaws.length-row}
 use Rattle.packed_log.proofs.writing.row_refusal.Statement.{statement}
 use Rattle.packed_log.proofs.writing.row_refusal.Tie as tie
 

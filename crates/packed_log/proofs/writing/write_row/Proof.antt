@@ -1,8 +1,7 @@
 -- `packed_log::writing::write_row`: each field is laid where the one before it ends.
 use borrow.Author.Needs.{needs}
 use native.Mathlib.Omega.{arith}
-use Rattle.packed_log.proofs.RowLaws.{first-width}
-use Rattle.packed_log.proofs.WritingLaws.{columns, put-row}
+use Rattle.packed_log.proofs.{RowLaws.first-width, WritingLaws.columns, WritingLaws.put-row}
 use Rattle.packed_log.proofs.writing.write_row.Statement.{statement}
 use Rattle.packed_log.proofs.writing.write_row.Tie as tie
 

@@ -3,9 +3,7 @@ use borrow.Author.Needs.{needs}
 use Prim.Native.Nat.{_+_, _<_}
 use mathlib.Core.Path.{sym, _∙_}
 use native.Mathlib.Omega.{arith}
-use Rattle.packed_log.specs.Rows.{Narrow}
-use Rattle.packed_log.specs.Widths.{kinds, due}
-use Rattle.packed_log.specs.Writing.{HasRoom}
+use Rattle.packed_log.specs.{Rows.Narrow, Widths.kinds, Widths.due, Writing.HasRoom}
 use Rattle.packed_log.proofs.RowLaws.{step-row}
 use Rattle.packed_log.proofs.WritingLaws.{length-row, row-clear, call-refused, call-laid}
 use Rattle.packed_log.proofs.writing.write_step.Statement.{statement}
