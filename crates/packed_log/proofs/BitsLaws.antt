@@ -135,13 +135,13 @@ pub put-left : (l m : List ℕ) (p : ℕ) (t : List Bool) → Bytes m → p + le
 put-left l m p t h room =
     let within : p + length t ≤ length (bits l) = rw length-bits room in
     same-row (put (l ++ m) p t) (put l p t ++ m) (bytes-put (l ++ m) p t) (bytes-append (put l p t) m (bytes-put l p t) h)
-    (rw (bits-put, bits-append, bits-append, bits-put, sets-left (bits l) (bits m) p t within))
+    (simp (bits-put, bits-append, sets-left (bits l) (bits m) p t within))
 
 -- what is laid over the second of two parts leaves the first
 put-right : (l m : List ℕ) (p : ℕ) (t : List Bool) → Bytes l → put (l ++ m) (8 * length l + p) t ≡ l ++ put m p t
 put-right l m p t h =
     same-row (put (l ++ m) (8 * length l + p) t) (l ++ put m p t) (bytes-put (l ++ m) (8 * length l + p) t) (bytes-append l (put m p t) h (bytes-put m p t))
-    (rw (bits-put, bits-append, bits-append, bits-put, ← length-bits, sets-right (bits l) (bits m) p t))
+    (simp (bits-put, bits-append, ← length-bits, sets-right (bits l) (bits m) p t))
 
 -- the first bytes of a log are bytes
 bytes-take : (f : ℕ) (l : List ℕ) → Bytes l → Bytes (take f l)

@@ -74,7 +74,7 @@ over-num : (v g w x : ℕ) → v < 2 ^ 24 → g + w ≤ 24 → x < 2 ^ w → ove
 over-num v g w x hv hw hx =
     let room : 24 - g - w + length (toBits w x) ≤ length (toBits 24 v) = simp length-toBits (omega arith) in
     let behind : 24 - (24 - g - w + w) ≡ g = omega arith in
-    sym (num-sets (toBits 24 v) (24 - g - w) (toBits w x) room ∙ rw (length-toBits, length-toBits, num-toBits 24 v hv, num-toBits w x hx, behind))
+    sym (num-sets (toBits 24 v) (24 - g - w) (toBits w x) room ∙ simp (length-toBits, num-toBits 24 v hv, num-toBits w x hx, behind))
 
 -- the number stays within 24 bits
 over-lt : (v g w x : ℕ) → v < 2 ^ 24 → g + w ≤ 24 → x < 2 ^ w → over v g w x < 2 ^ 24

@@ -3,10 +3,10 @@ use Prim.Native.Nat.{ℕ, zero, suc, _+_, _*_, _-_, _%_, _^_, _≤_, _<_}
 use mathlib.Core.Path.{_≡_, refl, sym, _∙_}
 use mathlib.Core.Bool.{Bool, true, false, _||_}
 use mathlib.Core.List.{List, [], _∷_, _++_, append-assoc, append-nil}
-use native.Mathlib.Nat.{add-assoc, zero-add, suc-add, mul-le-mul-right, mod-eq-of-lt, min-le-left, min-le-right}
+use native.Mathlib.Nat.{add-assoc, zero-mul, mul-le-mul-right, mod-eq-of-lt}
 use native.Mathlib.{Numerals.add-one, Omega.arith}
 use borrow.Author.Tests.{ltb-false, ne-eqb}
-use lib.{Dec.leb, Pow.pow-add, Pow.pow-mono, Seq.length-take-le, Seq.take-suc}
+use lib.{Dec.leb, Pow.pow-add, Pow.pow-mono, Pow.pow-pos, Seq.length-take-le, Seq.take-suc}
 use lib.ListN.{length, replicate, length-append, length-replicate, getD, take}
 use Rattle.words.specs.Tests.{choose, both, either}
 use Rattle.words.specs.Refusals.{_⇒_, first, Refusal}
@@ -97,21 +97,17 @@ pub length-end : (p : ℕ) → length (endBits p) ≡ 4 + (8 - (p + 4) % 8) % 8
 unfolding endBits
 length-end p = simp (length-append, length-toBits, length-replicate)
 
--- zero bits joined to zero bits are zero bits
-replicate-append : {A : Type 0} (k m : ℕ) (a : A) → replicate k a ++ replicate m a ≡ replicate (k + m) a
-replicate-append zero m a = rw zero-add
-replicate-append (suc k) m a = rw (suc-add, replicate-append k m a)
-
 -- the end is a row of zero bits
 pub end-zero : (p w : ℕ) → w ≡ length (endBits p) → toBits w 0 ≡ endBits p
 unfolding endBits
 end-zero p w e =
     let k : ℕ = (8 - (p + 4) % 8) % 8 in
-    rw (e, length-end p, zero-bits (4 + k), zero-bits 4) (sym (replicate-append 4 k false))
+    let joined : toBits (4 + k) 0 ≡ toBits 4 0 ++ toBits k 0 = rw zero-mul at (join-bits 4 k 0 0 (pow-pos k)) in
+    rw (e, length-end p, joined, zero-bits k)
 
 -- what has room ends within the buffer, at a position below 2^64
 pub has-room : (l : List ℕ) (p size left : ℕ) → 0 < size → left ≡ room l p → size ≤ left → HasRoom l p size
-has-room l p size left some measured h = (omega (arith, min-le-left (length l) (2 ^ 61 - 1)), omega (arith, min-le-right (length l) (2 ^ 61 - 1)))
+has-room l p size left some measured h = omega arith
 
 -- what the tests of a row say where nothing is refused
 pub row-clear : (l : List ℕ) (p : ℕ) (r : Row) → rowRefused l p r ≡ 0 → Narrow r × HasRoom l p (4 + due (r .kind))
