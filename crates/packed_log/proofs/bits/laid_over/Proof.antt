@@ -16,7 +16,7 @@ laid-over-spec =
     tie.close (tie.spec
     (search needs) (search needs) (search needs) (search needs) (search needs) (search needs)
     (search needs)
-    (λ c. omega (arith, fit c))
+    (λ c. omega (arith, fit c .high, fit c .middle, fit c .small))
     (search needs) (search needs)
-    (λ c. omega (arith, fit c)) (λ c. omega (arith, fit c))
+    (λ c. omega (arith, fit c .unit, fit c .some)) (λ c. omega (arith, fit c .high, fit c .middle, fit c .low, fit c .small))
     (λ c. rw (fit c .high, fit c .middle, fit c .unit) (refl, fit c .small)))
