@@ -189,7 +189,7 @@ module _ (log : List ℕ) (n trust : ℕ) (schedule : List ℕ) where
       let leaders : List ℕ = leadersAt log (15 + countIn log) (lengthIn log (countIn log)) in
       let books : freshBook (countIn log) (trustIn log (countIn log)) leaders ≡ freshBook n trust schedule = sym (book-register _) ∙ ap bookOf same ∙ book-register _ in
       let count : countIn log ≡ n = ap (λ (b : Book). b .n) books in
-      let long : length leaders ≡ length schedule = ap (λ (b : Book). b .length) books in
+      let long : length leaders ≡ length schedule = ap (λ (b : Book). b .scheduled) books in
       let epochs : lengthIn log n ≡ length schedule = rw (length-leadersAt, count) at long in
       let table : leaderTable leaders ≡ leaderTable schedule = ap (λ (b : Book). b .leaders) books in
       let word : fill 2 n (digit 2 (trustIn log n)) ≡ fill 2 n (digit 2 trust) = rw count at (ap (λ (b : Book). b .trust) books) in

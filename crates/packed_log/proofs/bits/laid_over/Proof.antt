@@ -14,9 +14,10 @@ pub laid-over-spec : {M : Type 1} → statement M
 unfolding over
 laid-over-spec =
     tie.close (tie.spec
-    (search needs) (search needs) (search needs) (search needs) (search needs) (search needs)
-    (search needs)
+    (λ c. search needs) (λ c. search needs) (λ c. search needs) (λ c. search needs) (λ c. search needs) (λ c. search needs)
+    (λ c. search needs)
     (λ c. omega (arith, fit c .high, fit c .middle, fit c .small))
-    (search needs) (search needs)
-    (λ c. omega (arith, fit c .unit, fit c .some)) (λ c. omega (arith, fit c .high, fit c .middle, fit c .low, fit c .small))
+    (λ c. search needs) (λ c. search needs)
+    (λ c. omega (arith, fit c .unit, fit c .some))
+    (λ c. omega (arith, fit c .high, fit c .middle, fit c .low, fit c .small))
     (λ c. rw (fit c .high, fit c .middle, fit c .unit) (refl, fit c .small)))

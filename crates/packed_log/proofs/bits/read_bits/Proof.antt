@@ -24,8 +24,8 @@ unfolding field num
 read-bits-spec =
     tie.close (tie.spec
     (λ c. rw (c .if1 .taken) (refl, omega arith))
-    (search needs) (search needs) (search needs) (search needs) (search needs) (search needs)
-    (search needs)
+    (λ c κs. search needs) (λ c. search needs) (λ c. search needs) (λ c. search needs) (λ c. search needs) (λ c. search needs)
+    (λ c. search needs)
     (λ c. omega (arith, unit c, pow-pos (c .before .before .before .args .width)))
     (λ c. record { fits = rw (unit c) (lt-of-lt-of-le (mod-lt _ (pow-pos _)) (pow-mono {j = 16} (omega arith))) })
     returns-2)

@@ -18,5 +18,5 @@ unfolding toBits
 write-bits-spec =
     tie.close (tie.spec
     (λ c. rw (c .if1 .taken) (sym (put-none _ _ (λ i. c .before .slice-known .given i .fits))))
-    (search needs) (search needs) (search needs) (search needs) (search needs)
+    (λ c. search needs) (λ c. search needs) (λ c. search needs) (λ c κs. search needs) (λ c. search needs)
     returns-2)

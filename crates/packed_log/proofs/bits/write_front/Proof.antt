@@ -7,6 +7,6 @@ use Rattle.packed_log.proofs.bits.write_front.Tie as tie
 pub write-front-spec : {M : Type 1} → statement M
 write-front-spec =
     tie.close (tie.spec
-    (search needs) (search needs) (search needs) (search needs) (search needs) (search needs)
-    (search needs) (search needs)
+    (λ c κs. search needs) (λ c. search needs) (λ c. search needs) (λ c κs. search needs) (λ c κs. search needs) (λ c κs. search needs)
+    (λ c κs. search needs) (λ c. search needs)
     (λ c. search put-stores depth 2))

@@ -8,6 +8,6 @@ pub is-ill-ended-spec : {M : Type 1} → statement M
 unfolding both
 is-ill-ended-spec =
     tie.close (tie.spec
-    (search needs)
+    (λ c κs. search needs)
     (λ c. rw (eq-eqb _ 0 (c .before .if1 .taken), c .is-padded .ensures))
     (λ c. rw (ne-eqb _ 0 (c .if1 .left))))

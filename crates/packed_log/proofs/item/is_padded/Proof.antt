@@ -9,6 +9,6 @@ pub is-padded-spec : {M : Type 1} → statement M
 unfolding padded both
 is-padded-spec =
     tie.close (tie.spec
-    (search needs) (search needs)
+    (λ c κs. search needs) (λ c κs. search needs)
     (λ c. rw (c .read-bits .ensures .0, ← c .before .before .left-of .ensures, lt-ltb _ _ (c .before .if1 .taken)))
     (λ c. rw (← c .before .left-of .ensures, le-ltb _ _ (c .if1 .left))))

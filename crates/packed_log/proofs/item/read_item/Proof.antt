@@ -33,7 +33,7 @@ pub read-item-spec : {M : Type 1} → statement M
 unfolding withFields choose
 read-item-spec =
     tie.close (tie.spec
-    (search needs)
+    (λ c κs. search needs)
     (λ c. item-read _ _ _ (c .before .before .skip-item .ensures) _ (rw (ne-eqb _ 0 (c .if1 .taken))))
     returns-2
     (λ c. omega (arith, step-there _ _ _ (c .before .before .before .before .skip-item .ensures) (c .if2 .left)))

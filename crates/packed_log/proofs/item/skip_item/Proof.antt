@@ -19,16 +19,16 @@ none c = search judging depth 12
 pub skip-item-spec : {M : Type 1} → statement M
 skip-item-spec =
     tie.close (tie.spec
-    (search needs)
+    (λ c κs. search needs)
     (λ c. search skipping depth 12)
-    (search needs) (search needs)
+    (λ c κs. search needs) (λ c κs. search needs)
     (λ c. search skipping depth 12)
-    (search needs) (search needs) (search needs) (search needs)
+    (λ c κs. search needs) (λ c. search needs) (λ c. search needs) (λ c κs. search needs)
     (λ c. search skipping depth 12)
-    (search needs) (search needs) (search needs) (search needs)
+    (λ c. search needs) (λ c κs. search needs) (λ c κs. search needs) (λ c κs. search needs)
     (λ c. search skipping depth 12)
-    (search needs) (search needs)
+    (λ c κs. search needs) (λ c κs. search needs)
     (λ c. search skipping depth 12)
-    (search needs) (search needs)
+    (λ c. search needs) (λ c. search needs)
     (λ c. ended-by _ _ _ (kindRead (c .before) .read-bits .ensures .0) (none (c .before)) (c .if6 .taken))
     (λ c. stepped-by _ _ _ _ (kindRead (c .before) .read-bits .ensures .0) (none (c .before)) (c .if6 .left) (c .before .before .before .before .before .due-of .ensures .0)))

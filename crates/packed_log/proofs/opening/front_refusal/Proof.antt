@@ -8,13 +8,13 @@ pub front-refusal-spec : {M : Type 1} → statement M
 front-refusal-spec =
     tie.close (tie.spec
     (λ c. search judging depth 12)
-    (search needs)
+    (λ c κs. search needs)
     (λ c. search judging depth 12)
-    (search needs) (search needs) (search needs)
+    (λ c κs. search needs) (λ c. search needs) (λ c κs. search needs)
     (λ c. rw (← c .before .before .read-bits .ensures .0) (search judging depth 12))
-    (search needs) (search needs)
+    (λ c κs. search needs) (λ c. search needs)
     (λ c. rw (← c .before .before .before .before .read-bits .ensures .0) (search judging depth 12))
-    (search needs) (search needs) (search needs) (search needs)
+    (λ c. search needs) (λ c κs. search needs) (λ c. search needs) (λ c κs. search needs)
     (λ c. rw (← c .before .before .before .before .before .before .before .read-bits .ensures .0, ← c .before .before .read-bits2 .ensures .0)
     (search judging depth 12))
     (λ c. rw (← c .before .before .before .before .before .before .before .read-bits .ensures .0, ← c .before .before .read-bits2 .ensures .0)

@@ -15,12 +15,12 @@ within c = omega (arith, c .read-leaders .ensures .0)
 pub open-with-spec : {M : Type 1} → statement M
 open-with-spec =
     tie.close (tie.spec
-    (search needs) (search needs) (search needs)
+    (λ c. search needs) (λ c. search needs) (λ c κs. search needs)
     (λ c κs. (omega arith, omega arith, omega arith))
-    (search needs)
+    (λ c κs. search needs)
     (λ c. within (c .before))
     (λ c. sym (length-take-le _ _ (within (c .before .before))))
-    (search needs) (search needs) (search needs)
+    (λ c κs. search needs) (λ c κs. search needs) (λ c κs. search needs)
     (λ c. search leaders-refused depth 2)
-    (search needs) (search needs)
+    (λ c. search needs) (λ c. search needs)
     (λ c. search leaders-opened depth 2))

@@ -23,9 +23,11 @@ returns c =
 pub read-leaders-spec : {M : Type 1} → statement M
 unfolding leadersAt
 read-leaders-spec =
-    tie.close (tie.spec Inv-loop μ-loop
+    tie.close (tie.spec
+    Inv-loop
+    μ-loop
     (λ c. (search needs, refl, refl))
-    (search needs) (search needs) (search needs) (search needs) (search needs) (search needs)
-    (search needs)
+    (λ c. search needs) (λ c. search needs) (λ c κs. search needs) (λ c. search needs) (λ c. search needs) (λ c. search needs)
+    (λ c. search needs)
     (λ c. (search needs, search needs, search next-leader depth 2))
     returns)

@@ -31,11 +31,11 @@ open-with-requires c κs =
 pub read-opening-spec : {M : Type 1} → statement M
 read-opening-spec =
     tie.close (tie.spec
-    (search needs) (search needs)
+    (λ c κs. search needs) (λ c κs. search needs)
     (λ c. c .refused .ensures ∙ front-refused _ _ _ refl refl _ (c .before .before .front-refusal .ensures) (c .before .if1 .taken))
     (λ c κs. (omega arith, omega (arith, front c .there), front c .small))
-    (search needs) (search needs) (search needs)
+    (λ c. search needs) (λ c. search needs) (λ c. search needs)
     (λ c κs. (omega arith, omega (arith, front (c .before) .there), front (c .before) .small))
-    (search needs)
+    (λ c. search needs)
     open-with-requires
     (λ c. c .open-with .ensures ∙ led-opening _ _ _ (c .before .before .read-bits .ensures .0) (c .before .read-bits2 .ensures .0) (clear (c .before))))

@@ -32,10 +32,12 @@ returns c =
 pub read-trust-spec : {M : Type 1} → statement M
 unfolding fill
 read-trust-spec =
-    tie.close (tie.spec Inv-loop μ-loop
+    tie.close (tie.spec
+    Inv-loop
+    μ-loop
     (λ c. (search needs, refl))
-    (search needs) (search needs) (search needs) (search needs) (search needs) (search needs)
+    (λ c. search needs) (λ c. search needs) (λ c κs. search needs) (λ c. search needs) (λ c. search needs) (λ c. search needs)
     (λ c. omega (arith, next c .1))
-    (search needs) (search needs)
+    (λ c. search needs) (λ c. search needs)
     (λ c. (search needs, next c .0))
     returns)

@@ -9,12 +9,15 @@ pub row-of-spec : {M : Type 1} → statement M
 unfolding rowOf
 row-of-spec =
     tie.close (tie.spec
-    (search needs) (search needs) (search needs) (search needs) (search needs) (search needs)
-    (search needs) (search needs) (search needs) (search needs) (search needs) (search needs)
-    (search needs) (search needs) (search needs) (search needs) (search needs) (search needs)
-    (search needs) (search needs) (search needs) (search needs) (search needs) (search needs)
-    (search needs) (search needs) (search needs) (search needs)
-    (λ c. search arms depth 6) (λ c. search arms depth 6) (λ c. search arms depth 6) (λ c. search arms depth 6)
+    (λ c. search needs) (λ c. search needs) (λ c. search needs) (λ c κs. search needs) (λ c. search needs) (λ c. search needs)
+    (λ c κs. search needs) (λ c. search needs) (λ c. search needs) (λ c κs. search needs) (λ c. search needs) (λ c. search needs)
+    (λ c. search needs) (λ c κs. search needs) (λ c. search needs) (λ c. search needs) (λ c κs. search needs) (λ c. search needs)
+    (λ c. search needs) (λ c κs. search needs) (λ c. search needs) (λ c. search needs) (λ c κs. search needs) (λ c. search needs)
+    (λ c. search needs) (λ c κs. search needs) (λ c. search needs) (λ c κs. search needs)
+    (λ c. search arms depth 6)
+    (λ c. search arms depth 6)
+    (λ c. search arms depth 6)
+    (λ c. search arms depth 6)
     (λ c. search arms depth 6)
     (λ c. by-step _ _ _ (c .before .before .before .before .before .before .step6 .given .1) (rw (c .before .before .before .kind-number .ensures) at (c .filled6 .ensures)))
     (λ c. search arms depth 6)

@@ -8,8 +8,8 @@ use Rattle.packed_log.proofs.write_opening.lay_opening.Tie as tie
 pub lay-opening-spec : {M : Type 1} → statement M
 lay-opening-spec =
     tie.close (tie.spec
-    (search needs) (search needs) (search needs) (search needs) (search needs) (search needs)
-    (search needs)
+    (λ c. search needs) (λ c. search needs) (λ c κs. search needs) (λ c κs. search needs) (λ c. search needs) (λ c κs. search needs)
+    (λ c. search needs)
     (λ c κs. (search, (omega arith, omega arith)))
-    (search needs)
+    (λ c. search needs)
     (λ c. search put-opening depth 3))

@@ -34,12 +34,14 @@ returns c =
 pub write-leaders-spec : {M : Type 1} → statement M
 unfolding leaderBits
 write-leaders-spec =
-    tie.close (tie.spec Inv-loop μ-loop
+    tie.close (tie.spec
+    Inv-loop
+    μ-loop
     (λ c. (search needs, sym (put-none _ _ (λ i. c .before .slice-known .given i .fits))))
-    (search needs) (search needs) (search needs)
+    (λ c. search needs) (λ c. search needs) (λ c. search needs)
     (λ c. omega (arith, small c))
     (λ c κs. (omega arith, omega (arith, long (c .before .before .before)), small c))
-    (search needs) (search needs)
+    (λ c. search needs) (λ c. search needs)
     (λ c. (search needs, search next-leader-bits depth 2))
     (λ c. long (c .before))
     returns)

@@ -38,13 +38,13 @@ returns-3 c =
 pub write-opening-spec : {M : Type 1} → statement M
 write-opening-spec =
     tie.close (tie.spec
-    (search needs)
+    (λ c κs. search needs)
     (λ c. call-refused _ _ _ _ _ (opening-bad _ _ _ _ _ _ (c .before .opening-refusal .ensures) (c .if1 .taken)) (c .if1 .taken))
-    (search needs) (search needs)
+    (λ c. search needs) (λ c. search needs)
     (λ c. omega (arith, accepted _ _ _ (opens c) .turns))
     (λ c. omega (arith, accepted _ _ _ (opens c) .turns))
-    (search needs) (search needs)
+    (λ c κs. search needs) (λ c. search needs)
     (λ c. call-short _ _ _ _ _ _ (sym (length-opening _ _ _)) (c .before .room-of .ensures) (opening-room _ _ _ _ _ (opens (c .before .before .before))) (c .if2 .taken))
     lay-opening-requires
-    (search needs) (search needs)
+    (λ c. search needs) (λ c. search needs)
     returns-3)

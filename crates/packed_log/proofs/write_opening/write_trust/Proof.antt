@@ -32,12 +32,14 @@ returns c =
 pub write-trust-spec : {M : Type 1} → statement M
 unfolding trustBits
 write-trust-spec =
-    tie.close (tie.spec Inv-loop μ-loop
+    tie.close (tie.spec
+    Inv-loop
+    μ-loop
     (λ c. (search needs, sym (put-none _ _ (λ i. c .slice-known .given i .fits))))
-    (search needs) (search needs) (search needs)
+    (λ c. search needs) (λ c. search needs) (λ c κs. search needs)
     (λ c. omega (arith, bit c))
     (λ c κs. (omega arith, omega (arith, long (c .before .before .before)), bit c))
-    (search needs) (search needs)
+    (λ c. search needs) (λ c. search needs)
     (λ c. (search needs, search next-trust-bit depth 2))
     (λ c. long (c .before))
     returns)

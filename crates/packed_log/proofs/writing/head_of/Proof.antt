@@ -8,6 +8,6 @@ use Rattle.packed_log.proofs.writing.head_of.Tie as tie
 pub head-of-spec : {M : Type 1} → statement M
 head-of-spec =
     tie.close (tie.spec
-    (search needs) (search needs)
+    (λ c. search needs) (λ c. search needs)
     (λ c. omega (arith, head-fits _ _ _ (c .pre .0) (c .pre .1) (c .pre .2)))
     (λ c. let fits = head-fits _ _ _ (c .pre .0) (c .pre .1) (c .pre .2) in (fits .0, rw (fits .0) (fits .1))))

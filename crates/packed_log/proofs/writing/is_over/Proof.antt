@@ -6,4 +6,4 @@ use Rattle.packed_log.proofs.writing.is_over.Statement.{statement}
 use Rattle.packed_log.proofs.writing.is_over.Tie as tie
 
 pub is-over-spec : {M : Type 1} → statement M
-is-over-spec = tie.close (tie.spec (search needs) (search needs) (λ c. rw (unit-shift (c .args .width) (omega arith))))
+is-over-spec = tie.close (tie.spec (λ c. search needs) (λ c. search needs) (λ c. rw (unit-shift (c .args .width) (omega arith))))

@@ -9,8 +9,8 @@ pub row-refusal-spec : {M : Type 1} → statement M
 unfolding rowRefused
 row-refusal-spec =
     tie.close (tie.spec
-    (search needs)
+    (λ c κs. search needs)
     (λ c. search judging depth 12)
-    (search needs) (search needs) (search needs)
+    (λ c κs. search needs) (λ c κs. search needs) (λ c. search needs)
     (λ c. rw (length-row, ← c .before .due-of .ensures .0) (search judging depth 12))
     (λ c. rw (length-row, ← c .before .due-of .ensures .0) (search judging depth 12)))

@@ -25,8 +25,8 @@ returns-2 c =
 pub write-end-spec : {M : Type 1} → statement M
 write-end-spec =
     tie.close (tie.spec
-    (search needs) (search needs) (search needs)
+    (λ c κs. search needs) (λ c κs. search needs) (λ c. search needs)
     (λ c. call-short _ _ _ _ _ _ (c .before .before .before .end-width .ensures .0) (c .before .room-of .ensures) (end-room _ _) (c .if1 .taken))
     write-bits-requires
-    (search needs) (search needs)
+    (λ c. search needs) (λ c. search needs)
     returns-2)

@@ -34,12 +34,12 @@ returns c =
 pub write-row-spec : {M : Type 1} → statement M
 write-row-spec =
     tie.close (tie.spec
-    (search needs) (search needs) (search needs) (search needs) (search needs) (search needs)
-    (search needs) (search needs) (search needs)
+    (λ c κs. search needs) (λ c κs. search needs) (λ c κs. search needs) (λ c κs. search needs) (λ c. search needs) (λ c. search needs)
+    (λ c. search needs) (λ c. search needs) (λ c. search needs)
     head-of-requires
     write-bits-requires
     (λ c κs. (search needs, search needs, search columns depth 4))
     (λ c κs. (search needs, search needs, search columns depth 4))
     (λ c κs. (search needs, search needs, search columns depth 4))
-    (search needs)
+    (λ c. search needs)
     returns)

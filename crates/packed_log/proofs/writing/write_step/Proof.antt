@@ -31,13 +31,13 @@ returns-2 c =
 pub write-step-spec : {M : Type 1} → statement M
 write-step-spec =
     tie.close (tie.spec
-    (search needs)
+    (λ c κs. search needs)
     (λ c κs. known (c .before))
-    (search needs)
+    (λ c. search needs)
     (λ c. rw (← c .before .before .before .row-of .ensures) (call-refused _ _ _ _ _ (c .before .row-refusal .ensures) (c .if1 .taken)))
     (λ c κs. (known (c .before .before .before .before), clear (c .before) .1, clear (c .before) .0))
     (λ c. omega (arith, clear (c .before .before .before .before) .1 .1))
     (λ c κs. known (c .before .before .before .before .before .before .before))
     (λ c. omega (arith, clear (c .before .before .before .before .before) .1 .1, c .due-of .ensures .0))
-    (search needs)
+    (λ c. search needs)
     returns-2)
