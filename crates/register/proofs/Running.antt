@@ -11,6 +11,7 @@ use lib.Seq.{take-suc, length-take-le, set-append-seam}
 use Rattle.words.specs.Tests.{choose}
 use Rattle.words.specs.Digits.{withMember}
 use Rattle.register.specs.Types.{Step, Register, Stepped, Ran, Book, Change}
+use Rattle.register.specs.Limits.{batch}
 use Rattle.register.specs.Books.{bookOf, registerOf, scalarsOf}
 use Rattle.register.specs.Fitness.{fit}
 use Rattle.register.specs.Steps.{Outcome, judged, ruleOf, bookRule, stepRule}
@@ -44,15 +45,15 @@ length-answers r [] = refl
 length-answers r (x ∷ xs) = ap suc (length-answers (stepRule r x .register) xs)
 
 -- one more number in a batch's table
-padded-more : (xs : List ℕ) (x : ℕ) → length xs < 256 → set (padded xs) (length xs) x ≡ padded (xs ++ (x ∷ []))
+padded-more : (xs : List ℕ) (x : ℕ) → length xs < batch → set (padded xs) (length xs) x ≡ padded (xs ++ (x ∷ []))
 unfolding padded
 padded-more xs x room =
-    let left : 256 - length xs ≡ suc (255 - length xs) = omega arith in
-    let less : 256 - length (xs ++ (x ∷ [])) ≡ 255 - length xs = simp length-append (omega arith) in
-    rw (left, less, append-assoc) (set-append-seam xs 0 (replicate (255 - length xs) 0) x)
+    let left : batch - length xs ≡ suc (batch - suc (length xs)) = omega arith in
+    let less : batch - length (xs ++ (x ∷ [])) ≡ batch - suc (length xs) = simp length-append (omega arith) in
+    rw (left, less, append-assoc) (set-append-seam xs 0 (replicate (batch - suc (length xs)) 0) x)
 
 -- one more answer
-numbers-more : (f : Stepped → ℕ) (ss : List Stepped) (s : Stepped) (i : ℕ) → length ss ≡ i → i < 256
+numbers-more : (f : Stepped → ℕ) (ss : List Stepped) (s : Stepped) (i : ℕ) → length ss ≡ i → i < batch
     → set (padded (map f ss)) i (f s) ≡ padded (map f (ss ++ (s ∷ [])))
 numbers-more f ss s i long room =
     let size : length (map f ss) ≡ i = simp length-map long in
@@ -106,7 +107,7 @@ module _ {r : Register} {steps : List Step} {i : ℕ} {book : Book} {ks vs : Lis
 
   -- the numbers of the answers with one more
   more-numbers : (f : Stepped → ℕ) (ns : List ℕ) (x : ℕ) → ns ≡ padded (map f (answers r (take i steps)))
-      → x ≡ f (stepRule (afterSteps r (take i steps)) (getD steps i d)) → i < 256
+      → x ≡ f (stepRule (afterSteps r (take i steps)) (getD steps i d)) → i < batch
       → set ns i x ≡ padded (map f (answers r (take (i + 1) steps)))
   more-numbers f ns x so-far is room =
       let long : length (answers r (take i steps)) ≡ i =
@@ -124,7 +125,7 @@ module _ {r : Register} {steps : List Step} {i : ℕ} {book : Book} {ks vs : Lis
       subst⁻¹ end (carries .answer) (settled-next book fits few step settled _ refl (held .settled))
 
   -- a change that carries the next step out, written and answered at its place, is one step more
-  pub held-next : (c : Change) → CarriesOut fits book (getD steps i d) c → i < 256 → (fits ≡ true → book .n ≤ 32)
+  pub held-next : (c : Change) → CarriesOut fits book (getD steps i d) c → i < batch → (fits ≡ true → book .n ≤ 32)
       → Held r steps (i + 1) (written book c) (set ks i (c .answer .refusal)) (set vs i (c .answer .value)) fits
       (choose (eqb (c .answer .refusal) 0) (withMember settled (actorOf (getD steps i d) .0)) settled)
   unfolding afterSteps
@@ -151,7 +152,7 @@ held-counts held fit = ranges (held .sizes) (held .fit ∙ fit) .counts
 
 -- before the first step
 pub held-none : (b : Book) (steps : List Step) (fits : Bool) → fits ≡ fit b → Sizes b
-    → Held (registerOf b) steps 0 b (replicate 256 0) (replicate 256 0) fits 0
+    → Held (registerOf b) steps 0 b (replicate batch 0) (replicate batch 0) fits 0
 unfolding afterSteps answers padded
 held-none b steps fits is sizes =
     record { register = refl; refusals = refl; values = refl; fit = sym is; sizes = sizes; settled = none-settled b }
@@ -163,7 +164,7 @@ unfolding ran
 held-all held = λ j. record { register = held .register j; refusals = held .refusals j; values = held .values j }
 
 -- a batch of one step
-pub ran-one : (r : Register) (step : Step) (given : Ran) → given ≡ ran r (take 1 (replicate 256 step))
+pub ran-one : (r : Register) (step : Step) (given : Ran) → given ≡ ran r (take 1 (replicate batch step))
     → record { register = given .register; refusal = getD (given .refusals) 0 0; value = getD (given .values) 0 0 } ≡ stepRule r step
 unfolding ran afterSteps answers padded
 ran-one r step given e =

@@ -6,6 +6,7 @@ use mathlib.Core.Logic.{_⊎_, inl, inr}
 use native.Mathlib.Omega.{arith}
 use lib.ListN.{length, take, drop, set, replicate, length-append, length-drop, length-map}
 use lib.Seq.{length-take-le, take-at, drop-cons, set-at}
+use Rattle.register.specs.Limits.{batch}
 use Rattle.register.specs.declared.step.Step.{Step}
 use Rattle.register.specs.declared.table.Register.{Register}
 use Rattle.register.specs.declared.table.Ran.{Ran}
@@ -22,33 +23,33 @@ use Rattle.replay.proofs.BodyLaws.{body-begins}
 -- what is gathered from position p on: some steps, in slots, with the rest of the body behind them
 pub record Gathered (log : List ℕ) (p : ℕ) (part : Part) : Type 0 where
   pub steps : List Step
-  pub few : length steps ≤ 256
+  pub few : length steps ≤ batch
   pub count : part .count ≡ length steps
   pub slots : part .slots ≡ slotsOf steps
   pub next : part .next ≡ behind log p (length steps)
   pub body : bodyAt log p .steps ≡ steps ++ bodyAt log (part .next) .steps
 
--- steps are all of the first 256 where they are 256, or where none follows
-all-there : (ss rest : List Step) → length ss ≤ 256 → (length ss ≡ 256) ⊎ (rest ≡ []) → length ss ≡ min 256 (length (ss ++ rest))
+-- steps are all that a batch takes where they fill it, or where none follows
+all-there : (ss rest : List Step) → length ss ≤ batch → (length ss ≡ batch) ⊎ (rest ≡ []) → length ss ≡ min batch (length (ss ++ rest))
 all-there ss rest few (inl all) = simp length-append (omega arith)
 all-there ss rest few (inr none) = rw (none, append-nil) (omega arith)
 
 -- a step that is put into the next slot comes behind the others
-slot-put : (ss : List Step) (s : Step) → length ss < 256 → set (slotsOf ss) (length ss) (record { step = s }) ≡ slotsOf (ss ++ s ∷ [])
+slot-put : (ss : List Step) (s : Step) → length ss < batch → set (slotsOf ss) (length ss) (record { step = s }) ≡ slotsOf (ss ++ s ∷ [])
 unfolding slotsOf
 slot-put ss s less =
-    let one-less : 256 - length ss ≡ suc (256 - length (ss ++ s ∷ [])) = simp length-append (omega arith) in
+    let one-less : batch - length ss ≡ suc (batch - length (ss ++ s ∷ [])) = simp length-append (omega arith) in
     let slot : Step → Slot = λ x. record { step = x } in
     rw one-less (simp (map-append, append-assoc) (set-at (map slot ss) _ _ _ _ (length-map ss slot)))
 
 module _ (log : List ℕ) (p : ℕ) where
   -- nothing gathered yet
-  pub gathered-none : Gathered log p (record { slots = replicate 256 (record { step = Step.Advance }); count = 0; next = p })
+  pub gathered-none : Gathered log p (record { slots = replicate batch (record { step = Step.Advance }); count = 0; next = p })
   unfolding slotsOf behind
   gathered-none = record { steps = []; few = omega arith; count = refl; slots = refl; next = refl; body = refl }
 
   -- one step more
-  pub gathered-step : (part : Part) (step : Step) (read : Read) → Gathered log p part → part .count < 256 → read ≡ itemAt log (part .next)
+  pub gathered-step : (part : Part) (step : Step) (read : Read) → Gathered log p part → part .count < batch → read ≡ itemAt log (part .next)
       → bodyAt log (part .next) ≡ begun (Item.Step step) (bodyAt log (read .next))
       → Gathered log p (record { slots = set (part .slots) (part .count) (record { step = step }); count = part .count + 1; next = read .next })
   unfolding behind begun
@@ -64,13 +65,13 @@ module _ (log : List ℕ) (p : ℕ) where
         body = so-far .body ∙ rw (one, append-assoc);
       }
 
-  -- a part is whole with 256 steps, or where no step follows
-  pub gathered-part : (part : Part) → Gathered log p part → (part .count ≡ 256) ⊎ (bodyAt log (part .next) .steps ≡ []) → part ≡ partAt log p
+  -- a part is whole where it fills a batch, or where no step follows
+  pub gathered-part : (part : Part) → Gathered log p part → (part .count ≡ batch) ⊎ (bodyAt log (part .next) .steps ≡ []) → part ≡ partAt log p
   unfolding partAt
   gathered-part part so-far whole =
       let ss : List Step = so-far .steps in
       let front : take (length ss) (bodyAt log p .steps) ≡ ss = rw (so-far .body) (take-at ss _ (length ss) refl) in
-      let all : length ss ≡ min 256 (length (bodyAt log p .steps)) = rw (so-far .body) (all-there ss _ (so-far .few) (rw (so-far .count) at whole)) in
+      let all : length ss ≡ min batch (length (bodyAt log p .steps)) = rw (so-far .body) (all-there ss _ (so-far .few) (rw (so-far .count) at whole)) in
       rw (← all, front) (λ i. record { slots = so-far .slots i; count = so-far .count i; next = so-far .next i })
 
 -- an item in front is passed over
@@ -90,7 +91,7 @@ rest-behind log p (suc k) less =
 
 module _ (log : List ℕ) (p : ℕ) (part : Part) (read : part ≡ partAt log p) where
   -- how many steps a part has
-  pub part-count : part .count ≡ min 256 (length (bodyAt log p .steps))
+  pub part-count : part .count ≡ min batch (length (bodyAt log p .steps))
   unfolding partAt
   part-count = ap (λ (x : Part). x .count) read
 
@@ -104,11 +105,11 @@ module _ (log : List ℕ) (p : ℕ) (part : Part) (read : part ≡ partAt log p)
   part-fewer some = rw (part-rest, length-drop) (omega (arith, part-count))
 
   -- the batch of a part's steps, run, gives what the body's first steps give
-  pub part-ran : (r : Register) (batch : List Step) (given : Ran) → batch ≡ stepsOf (part .slots)
-      → given ≡ ran r (take (min (part .count) 256) batch) → given ≡ ran r (take (part .count) (bodyAt log p .steps))
+  pub part-ran : (r : Register) (filled : List Step) (given : Ran) → filled ≡ stepsOf (part .slots)
+      → given ≡ ran r (take (min (part .count) batch) filled) → given ≡ ran r (take (part .count) (bodyAt log p .steps))
   unfolding partAt stepsOf slotsOf
-  part-ran r batch given holds runs =
-      let count : ℕ = min 256 (length (bodyAt log p .steps)) in
+  part-ran r filled given holds runs =
+      let count : ℕ = min batch (length (bodyAt log p .steps)) in
       let ss : List Step = take count (bodyAt log p .steps) in
-      let long : length ss ≡ min count 256 = length-take-le count (bodyAt log p .steps) (omega arith) ∙ omega arith in
+      let long : length ss ≡ min count batch = length-take-le count (bodyAt log p .steps) (omega arith) ∙ omega arith in
       runs ∙ rw (holds, read) (simp (map-map, map-id) (ap (ran r) (take-at ss _ _ long)))

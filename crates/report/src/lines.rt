@@ -1,6 +1,7 @@
 // The lines of a report, many at a time.
 ghost use Prim.Native.Nat.{_+_, _*_, _^_, _≤_, _<_};
 ghost use Rattle.words.specs.Lent.{lent, given};
+ghost use Rattle.register.specs.Limits.{batch};
 ghost use Rattle.report.specs.Text.{TextWritten};
 ghost use Rattle.report.specs.Reports.{officeText, officeLines};
 ghost use Rattle.report.specs.Batches.{batchLines};
@@ -8,17 +9,18 @@ use crate::text::write_office_line;
 use crate::text::write_step_line;
 use register::Office;
 use register::Register;
+use register::limits::BATCH;
 
 // Writes the lines of the first `count` answers of a batch, whose places are counted on from `place`.
 pub(crate) fn write_batch<'a>(
     report: &mut [u8],
     at: usize,
     place: usize,
-    refusals: &'a [u8; 256],
-    values: &'a [u16; 256],
+    refusals: &'a [u8; BATCH],
+    values: &'a [u16; BATCH],
     count: usize,
 ) -> usize
-    requires { ⌜ (count ≤ 256) × (place + count ≤ 131073) × (at ≤ 2 ^ 31) ⌝ }
+    requires { ⌜ (count ≤ batch) × (place + count ≤ 131073) × (at ≤ 2 ^ 31) ⌝ }
     ensures { λ r. ⌜ TextWritten (lent report) at (batchLines place (lent refusals) (lent values) count) r (given report)
         × (r ≤ at + 17 * count) ⌝ }
 {

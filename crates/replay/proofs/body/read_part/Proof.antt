@@ -6,6 +6,7 @@ use mathlib.Core.List.{[]}
 use mathlib.Core.Logic.{_⊎_, inl, inr}
 use native.Mathlib.Omega.{arith}
 use denote.Enum.Declared.{tagOf}
+use Rattle.register.specs.Limits.{batch}
 use Rattle.packed_log.specs.declared.item.Item.{Item}
 use Rattle.packed_log.proofs.item.Item as item-laws
 use Rattle.replay.specs.Bodies.{Body, begun, bodyAt}
@@ -18,7 +19,7 @@ abbrev Inv-loop : tie.InvT-loop
 Inv-loop log at slots₀ count₀ next₀ slots count next = Gathered log at (record { slots = slots; count = count; next = next })
 
 abbrev μ-loop : tie.MeasureT-loop
-μ-loop log at slots₀ count₀ next₀ slots count next = 256 - count
+μ-loop log at slots₀ count₀ next₀ slots count next = batch - count
 
 -- the number of an item's variant, as the code tests it
 abbrev tag : Item → ℕ

@@ -5,6 +5,7 @@ use mathlib.Core.Path.{_≡_, sym}
 use native.Mathlib.Omega.{arith}
 use lib.ListN.{length}
 use Rattle.register.specs.declared.step.Step.{Step}
+use Rattle.register.specs.Limits.{batch}
 use Rattle.register.proofs.Copying.{Copied, copied-none, copied-more, copied-all}
 use Rattle.replay.specs.declared.body.Slot.{Slot}
 use Rattle.replay.specs.Parts.{stepsOf}
@@ -15,13 +16,13 @@ abbrev step : Slot → Step
 step s = s .step
 
 abbrev Inv-loop : tie.InvT-loop
-Inv-loop slots steps₀ i₀ steps i = (i ≤ 256) × Copied step slots steps i
+Inv-loop slots steps₀ i₀ steps i = (i ≤ batch) × Copied step slots steps i
 
 abbrev μ-loop : tie.MeasureT-loop
-μ-loop slots steps₀ i₀ steps i = 256 - i
+μ-loop slots steps₀ i₀ steps i = batch - i
 
--- there are 256 slots
-full : (c : tie.Start Inv-loop μ-loop) → length (c .args .t1) ≡ 256
+-- there are as many slots as a batch has steps
+full : (c : tie.Start Inv-loop μ-loop) → length (c .args .t1) ≡ batch
 full c = c .good .0 .1 .0 .1
 
 loop-again : tie.Need-loop-again Inv-loop μ-loop

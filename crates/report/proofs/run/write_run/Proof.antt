@@ -4,6 +4,7 @@ use Prim.Native.Nat.{_+_, _≤_}
 use mathlib.Core.Path.{_∙_}
 use native.Mathlib.Omega.{arith}
 use lib.ListN.{length}
+use Rattle.register.specs.Limits.{batch}
 use Rattle.replay.specs.Bodies.{bodyAt}
 use Rattle.replay.proofs.BodyLaws.{body-few}
 use Rattle.replay.proofs.PartLaws.{part-count, part-rest, part-fewer, part-ran}
@@ -20,9 +21,9 @@ Inv-loop report₀ log from current₀ at₀ place₀ next₀ report current at 
 abbrev μ-loop : tie.MeasureT-loop
 μ-loop report₀ log from current₀ at₀ place₀ next₀ report current at place next = length (bodyAt log at .steps)
 
--- a part has at most 256 steps, and no more than are left
+-- a part has at most as many steps as a batch, and no more than are left
 counts : (c : tie.After-read-part Inv-loop μ-loop)
-    → (c .read-part .result .count ≤ 256) × (c .before .loop .place + c .read-part .result .count ≤ 131073)
+    → (c .read-part .result .count ≤ batch) × (c .before .loop .place + c .read-part .result .count ≤ 131073)
 counts c =
     let count : _ = part-count _ _ _ (c .read-part .ensures) in
     (omega (arith, count), omega (arith, count, c .before .loop .inv .few))

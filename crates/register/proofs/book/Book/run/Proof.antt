@@ -5,6 +5,7 @@ use mathlib.Core.Path.{_≡_, refl}
 use native.Mathlib.Omega.{arith}
 use lib.ListN.{length, getD}
 use Rattle.register.specs.Types.{Step, Book, Actor}
+use Rattle.register.specs.Limits.{batch}
 use Rattle.register.specs.Books.{office, block, registerOf}
 use Rattle.register.specs.Tables.{stateOf}
 use Rattle.register.specs.Views.{stage, signed, notarised}
@@ -28,12 +29,12 @@ loop-holds : tie.Need-loop-holds Inv-loop μ-loop
 unfolding fit
 loop-holds c = (search needs, held-none _ _ _ (c .pre .0) (c .pre .1))
 
--- a batch has 256 steps
-long : (s : tie.Start Inv-loop μ-loop) → length (s .args .t3) ≡ 256
+-- a batch has all its steps
+long : (s : tie.Start Inv-loop μ-loop) → length (s .args .t3) ≡ batch
 long s = omega arith
 
--- in the loop i is below 256
-below : (c : tie.In-loop Inv-loop μ-loop) → c .before .loop .i < 256
+-- in the loop i is below their number
+below : (c : tie.In-loop Inv-loop μ-loop) → c .before .loop .i < batch
 below c = omega (arith, c .before .before .pre .2)
 
 -- the step of a turn, and the book that it is made on
