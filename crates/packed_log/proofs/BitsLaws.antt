@@ -151,7 +151,8 @@ bytes-take (suc f) (b ∷ l) h zero = h 0
 bytes-take (suc f) (b ∷ l) h (suc i) = bytes-take f l (λ k. h (suc k)) i
 
 -- laying a row over the part that starts at the first unfinished byte is laying it over the whole buffer
-pub put-part : (l : List ℕ) (p : ℕ) (t : List Bool) → Bytes l → p ≤ 8 * length l → take (p / 8) l ++ (put (take (length l - p / 8) (drop (p / 8) l)) (p % 8) t ++ drop (length l - p / 8) (drop (p / 8) l)) ≡ put l p t
+pub put-part : (l : List ℕ) (p : ℕ) (t : List Bool) → Bytes l → p ≤ 8 * length l
+    → take (p / 8) l ++ (put (take (length l - p / 8) (drop (p / 8) l)) (p % 8) t ++ drop (length l - p / 8) (drop (p / 8) l)) ≡ put l p t
 put-part l p t h within =
     let f : ℕ = p / 8 in
     let front : length (take f l) ≡ f = simp length-take (omega arith) in

@@ -7,4 +7,9 @@ use Rattle.packed_log.proofs.bits.byte_at.Statement.{statement}
 use Rattle.packed_log.proofs.bits.byte_at.Tie as tie
 
 pub byte-at-spec : {M : Type 1} → statement M
-byte-at-spec = tie.close (tie.spec (λ c. search needs) (λ c. omega (arith, c .shared-slice-known .given (c .before .before .args .i))) (λ c. (refl, omega (arith, c .shared-slice-known .given (c .before .before .args .i)))) (λ c. (sym (List·getD-eq-default (c .before .args .log .now) 0 (omega arith)), omega arith)))
+byte-at-spec =
+    tie.close (tie.spec
+    (λ c. search needs)
+    (λ c. omega (arith, c .shared-slice-known .given (c .before .before .args .i)))
+    (λ c. (refl, omega (arith, c .shared-slice-known .given (c .before .before .args .i))))
+    (λ c. (sym (List·getD-eq-default (c .before .args .log .now) 0 (omega arith)), omega arith)))

@@ -13,7 +13,8 @@ abbrev kindRead : tie.Else5 → tie.After-read-bits
 kindRead c = c .before .before .before .before .before .before
 
 -- there nothing is refused
-none : (c : tie.Else5) → 0 ≡ first (itemTests (kindRead c .before .before .before .before .before .args .log .now) (kindRead c .before .before .before .before .before .args .at) (kindRead c .read-bits .result))
+none : (c : tie.Else5)
+    → (let a = kindRead c .before .before .before .before .before .args in 0 ≡ first (itemTests (a .log .now) (a .at) (kindRead c .read-bits .result)))
 none c = search judging depth 12
 
 pub skip-item-spec : {M : Type 1} → statement M

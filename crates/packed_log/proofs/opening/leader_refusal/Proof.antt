@@ -6,4 +6,8 @@ use Rattle.packed_log.proofs.opening.leader_refusal.Tie as tie
 
 pub leader-refusal-spec : {M : Type 1} → statement M
 unfolding choose
-leader-refusal-spec = tie.close (tie.spec (λ c. rw (c .if1 .taken)) (λ c. rw (ne-eqb _ _ (c .before .if1 .left), lt-ltb _ _ (c .if2 .taken))) (λ c. rw (ne-eqb _ _ (c .before .if1 .left), le-ltb _ _ (c .if2 .left))))
+leader-refusal-spec =
+    tie.close (tie.spec
+    (λ c. rw (c .if1 .taken))
+    (λ c. rw (ne-eqb _ _ (c .before .if1 .left), lt-ltb _ _ (c .if2 .taken)))
+    (λ c. rw (ne-eqb _ _ (c .before .if1 .left), le-ltb _ _ (c .if2 .left))))

@@ -61,7 +61,9 @@ write-run-spec =
     μ-loop
     (λ c. run-begins _ _ _ (body-few _ _))
     (λ c κs. search needs) (λ c κs. search needs) (λ c κs. search needs)
-    (λ c κs. (counts (c .before .before .before .before .before .before .before .before .before) .0, counts (c .before .before .before .before .before .before .before .before .before) .1, omega arith))
+    (λ c κs.
+    let few = counts (c .before .before .before .before .before .before .before .before .before) in
+    (few .0, few .1, omega arith))
     (λ c. omega (arith, counts (c .before .before .before .before .before .before .before .before .before .before .before .before) .1))
     loop-less
     loop-again
