@@ -7,7 +7,7 @@ use native.Mathlib.Nat.{add-assoc, zero-mul, mul-le-mul-right, mod-eq-of-lt}
 use native.Mathlib.{Numerals.add-one, Omega.arith}
 use borrow.Author.Tests.{ltb-false, ne-eqb}
 use lib.{Dec.leb, Pow.pow-add, Pow.pow-mono, Pow.pow-pos, Seq.length-take-le, Seq.take-suc}
-use lib.ListN.{length, replicate, length-append, length-replicate, getD, take}
+use lib.ListN.{length, length-append, length-replicate, getD, take}
 use Rattle.words.specs.Tests.{choose, both, either}
 use Rattle.words.specs.Refusals.{_⇒_, first, Refusal}
 use Rattle.words.specs.Digits.{digit}

@@ -12,14 +12,14 @@ use Rattle.words.specs.Tests.{choose}
 use Rattle.words.specs.Digits.{withMember}
 use Rattle.register.specs.Types.{Step, Register, Stepped, Ran, Book, Change}
 use Rattle.register.specs.Limits.{batch}
-use Rattle.register.specs.Books.{bookOf, registerOf, scalarsOf}
+use Rattle.register.specs.Books.{registerOf, scalarsOf}
 use Rattle.register.specs.Fitness.{fit}
 use Rattle.register.specs.Steps.{Outcome, judged, ruleOf, bookRule, stepRule}
 use Rattle.register.specs.Runs.{afterSteps, answers, padded, ran}
 use Rattle.register.specs.Promises.{Sizes}
 use Rattle.register.specs.Lent.{Counted}
 use Rattle.register.specs.Settled.{AllSettled, actorOf}
-use Rattle.register.proofs.Typing.{book-register, register-book}
+use Rattle.register.proofs.Typing.{book-register}
 use Rattle.register.proofs.Ranges.{ranges}
 use Rattle.register.proofs.FitSteps.{fit-step}
 use Rattle.register.proofs.Writing.{written}
