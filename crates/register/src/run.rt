@@ -14,7 +14,7 @@ use crate::actor::place_of;
 use crate::actor::settled_after;
 use crate::actor::settled_base;
 use crate::book::Book;
-use crate::limits::BATCH;
+pub use crate::limits::BATCH;
 use crate::sorts::Block;
 use crate::sorts::Epoch;
 use crate::sorts::Kind;
