@@ -4,7 +4,7 @@ use mathlib.Core.Path.{_≡_, refl, sym, _∙_}
 use mathlib.Core.Bool.{true, false, not, Bool}
 use mathlib.Core.List.{List, [], _++_, append-assoc, append-nil}
 use native.Mathlib.Omega.{arith}
-use borrow.Author.Tests.{ltb-false, leb-false, eqb-true, not-false, eq-eqb, ne-eqb, ltb-true, lt-ltb}
+use borrow.Author.Tests.{ltb-false, leb-false, eqb-true, not-false, eq-eqb, ne-eqb, ltb-true, lt-ltb, le-ltb}
 use lib.Dec.{eqb, eqb·suc-zero, ltb, T}
 use lib.ListN.{length, drop, length-append, drop-of-length-le}
 use lib.Pow.{pow-pos}
@@ -75,14 +75,39 @@ pub refused-by : (log : List ℕ) (p kind number : ℕ) (x : Skipped) → x ≡ 
     → number ≡ first (itemTests log p kind) → T (ltb 0 number) → x ≡ skippedAt log p
 refused-by log p kind number x e read same some = refused-at log p number x e (rw (← read) same) some
 
-pub ruleset skipping = (judging, refused-at, refused-by, tt)
+-- a step is refused by nothing behind it
+pub not-ended : (kind : ℕ) (b : Bool) → (kind ≡ 0 → ⊥) → both (eqb kind 0) b ≡ false
+unfolding both
+not-ended kind b step = rw (ne-eqb kind 0 step)
 
--- what is not refused is the end, or a step
-pub ended-by : (log : List ℕ) (p kind : ℕ) → kind ≡ kindAt log p → 0 ≡ first (itemTests log p kind) → kind ≡ 0
-    → skipped kind 0 (8 * length log) ≡ skippedAt log p
-unfolding skippedAt choose
-ended-by log p kind read none end = rw (← read, ← none, end)
+-- where there is room for the kind, no bit of it is missing
+pub kind-there : (total p : ℕ) → p + 4 ≤ total → ltb (total - p) 4 ≡ false
+kind-there total p h = le-ltb (total - p) 4 (omega arith)
 
+pub ruleset skipping = (judging, not-ended, kind-there, refused-at, refused-by, tt)
+
+by-pad : (log : List ℕ) (p : ℕ) (pad : Bool)
+    → (let number : ℕ = choose (not pad) 29 0 in
+    choose pad (skipped 0 0 (8 * length log)) (skipped 0 29 p) ≡ choose (eqb number 0) (skipped 0 0 (8 * length log)) (skipped 0 number p))
+unfolding choose
+by-pad log p true = refl
+by-pad log p false = refl
+
+-- where the end stands, what stands behind it decides
+pad-decides : (log : List ℕ) (p : ℕ) → kindAt log p ≡ 0 → length log ≤ 65536 → p + 4 ≤ 8 * length log → (pad : Bool) → padded log (p + 4) ≡ pad
+    → choose pad (skipped 0 0 (8 * length log)) (skipped 0 29 p) ≡ skippedAt log p
+unfolding skippedAt choose both first width fields
+pad-decides log p end small head pad e =
+    let none-due : due (kindAt log p) ≡ 0 = rw end in
+    let there : ltb (left log (p + 4)) (due (kindAt log p)) ≡ false = le-ltb (left log (p + 4)) (due (kindAt log p)) (omega arith) in
+    rw (le-ltb 65536 (length log) small, kind-there (8 * length log) p head, there, end, e) (by-pad log p pad)
+
+-- the end is refused by its pad alone
+pub ended-by : (log : List ℕ) (p kind : ℕ) → kind ≡ kindAt log p → p + 4 ≤ 8 * length log → length log ≤ 65536 → kind ≡ 0
+    → choose (padded log (p + 4)) (skipped 0 0 (8 * length log)) (skipped 0 29 p) ≡ skippedAt log p
+ended-by log p kind read head small end = pad-decides log p (rw (← read) end) small head (padded log (p + 4)) refl
+
+-- what is neither refused nor the end is a step
 pub stepped-by : (log : List ℕ) (p kind size : ℕ) → kind ≡ kindAt log p → 0 ≡ first (itemTests log p kind) → (kind ≡ 0 → ⊥) → size ≡ due kind
     → skipped kind 0 (p + 4 + size) ≡ skippedAt log p
 unfolding skippedAt choose

@@ -1,13 +1,11 @@
 // Reading a log item by item.
 ghost use mathlib.Core.Path.{_≡_};
-ghost use mathlib.Core.Bool.{not};
 ghost use Prim.Native.Nat.{_+_, _*_, _≤_, _<_};
-ghost use lib.Dec.{eqb};
 ghost use lib.ListN.{length};
 ghost use Rattle.words.specs.Lent.{lent};
-ghost use Rattle.words.specs.Tests.{both};
+ghost use Rattle.words.specs.Tests.{choose};
 ghost use Rattle.packed_log.specs.Widths.{kinds, due};
-ghost use Rattle.packed_log.specs.Items.{left, rowAt, padded, skipped, skippedAt, itemAt, numbers, numbersAt};
+ghost use Rattle.packed_log.specs.Items.{left, kindAt, rowAt, padded, skipped, skippedAt, itemAt, numbers, numbersAt};
 use crate::bits::left_from;
 use crate::bits::read_bits;
 use crate::refusal;
@@ -84,17 +82,6 @@ fn is_padded(log: &[u8], at: usize) -> bool
     false
 }
 
-// The kind is that of the end, and what stands behind it is not the pad.
-fn is_ill_ended(log: &[u8], kind: u8, at: usize) -> bool
-    requires { ⌜ (at ≤ 8 * length (now log)) × (length (now log) ≤ 65536) ⌝ }
-    ensures { λ r. ⌜ r ≡ both (eqb kind 0) (not (padded (lent log) at)) ⌝ }
-{
-    if kind == 0 {
-        return !is_padded(log, at);
-    }
-    false
-}
-
 // A refusal, which leaves the position.
 fn refused(number: u8, at: usize) -> Skipped
     ensures { λ r. ⌜ r ≡ skipped 0 number at ⌝ }
@@ -103,6 +90,44 @@ fn refused(number: u8, at: usize) -> Skipped
         kind: 0,
         refusal: number,
         next: at,
+    }
+}
+
+// The end, whose kind stands at position `at`: it takes the rest of the log, or is refused.
+fn skip_end(log: &[u8], at: usize) -> Skipped
+    requires { ⌜ (at + 4 ≤ 8 * length (now log)) × (length (now log) ≤ 65536) ⌝ }
+    ensures { λ r. ⌜ r ≡ choose (padded (lent log) (at + 4)) (skipped 0 0 (8 * length (lent log))) (skipped 0 29 at) ⌝ }
+{
+    if !is_padded(log, at + KIND_WIDTH) {
+        return refused(refusal::ENDING, at);
+    }
+    Skipped {
+        kind: 0,
+        refusal: 0,
+        next: 8 * log.len(),
+    }
+}
+
+// The item at position `at`, but for a step's fields, where its kind has been read.
+fn skip_kind(log: &[u8], kind: u8, at: usize) -> Skipped
+    requires { ⌜ (kind ≡ kindAt (now log) at) × (at + 4 ≤ 8 * length (now log)) × (length (now log) ≤ 65536) ⌝ }
+    ensures { λ r. ⌜ r ≡ skippedAt (lent log) at ⌝ }
+{
+    if KINDS <= kind as usize {
+        return refused(refusal::NO_SUCH_STEP, at);
+    }
+    if kind == 0 {
+        return skip_end(log, at);
+    }
+    let from = at + KIND_WIDTH;
+    let size = due_of(kind);
+    if left_of(log, from) < size {
+        return refused(refusal::CUT, at);
+    }
+    Skipped {
+        kind,
+        refusal: 0,
+        next: from + size,
     }
 }
 
@@ -116,28 +141,8 @@ pub fn skip_item(log: &[u8], at: usize) -> Skipped
     if left_of(log, at) < KIND_WIDTH {
         return refused(refusal::CUT, at);
     }
-    let kind = read_bits(log, at, KIND_WIDTH) as u8;
-    if KINDS <= kind as usize {
-        return refused(refusal::NO_SUCH_STEP, at);
-    }
-    let from = at + KIND_WIDTH;
-    let size = due_of(kind);
-    if left_of(log, from) < size {
-        return refused(refusal::CUT, at);
-    }
-    if is_ill_ended(log, kind, from) {
-        return refused(refusal::ENDING, at);
-    }
-    let next = if kind == 0 {
-        8 * log.len()
-    } else {
-        from + size
-    };
-    Skipped {
-        kind,
-        refusal: 0,
-        next,
-    }
+    let kind = read_bits(log, at, KIND_WIDTH);
+    skip_kind(log, kind as u8, at)
 }
 
 // The item at position `at`.
