@@ -15,7 +15,7 @@ use Rattle.register.specs.declared.{sorts.Kind.Kind, step.Step.Step}
 use Rattle.register.specs.declared.sorts.Kind.the-variants.{Proposal, Vote as AVote}
 use Rattle.register.specs.declared.step.Step.the-variants as steps
 use Rattle.packed_log.specs.declared.row.Row.{Row}
-use Rattle.packed_log.specs.Widths.{kinds, fields, width}
+use Rattle.packed_log.specs.Widths.{kinds, fields, width, due}
 use Rattle.packed_log.specs.Rows.{row, kindNumber, kindNumbered, rowOf, pick, stepsOf, stepOf, Narrow}
 use Rattle.packed_log.specs.{Items.rowAt, Writing.wide}
 
@@ -24,34 +24,48 @@ infixr 5 _&_
 pub _&_ : {A B : Type 0} → A → B → A × B
 a & b = (a, b)
 
--- the widths of a kind as the table has them: a byte for each column, the first column highest
+-- what the fields of a kind take, as the table has it: the bits of all, and a byte for each column, the first column highest
 abbrev entry : (kind : ℕ) → ℕ
-entry kind = ((width kind 0 * 256 + width kind 1) * 256 + width kind 2) * 256 + width kind 3
+entry kind = (((due kind * 256 + width kind 0) * 256 + width kind 1) * 256 + width kind 2) * 256 + width kind 3
 
 -- the byte of a column in such an entry
 abbrev byte : (kind column : ℕ) → ℕ
 byte kind column = entry kind / 2 ^ (8 * (3 - column)) % 256
 
--- it is the width of the kind's column, and at most 16
-unfoldable right : (kind column : ℕ) → Bool
-right kind column = both (eqb (byte kind column) (width kind column)) (leb (byte kind column) 16)
+-- a part of an entry is that number, and at most k
+unfoldable right : (part number k : ℕ) → Bool
+right part number k = both (eqb part number) (leb part k)
+
+told : (part number k : ℕ) → right part number k ≡ true → (part ≡ number) × (part ≤ k)
+unfolding right
+told part number k test = (eqb-true part number (both-left _ (leb part k) test), leb-true part k (both-right (eqb part number) _ test))
 
 -- every byte of the table is right
-all-right : all (kinds * 4) (λ k. right (k / 4) (k % 4)) ≡ true
+abbrev width-right : (k : ℕ) → Bool
+width-right k = right (byte (k / 4) (k % 4)) (width (k / 4) (k % 4)) 16
+
+widths-right : all (kinds * 4) width-right ≡ true
 unfolding all both right width fields
-all-right = refl
+widths-right = refl
 
 -- the table gives the width of each kind and column
 pub table-width : (kind column : ℕ) → kind < kinds → column < 4 → (byte kind column ≡ width kind column) × (byte kind column ≤ 16)
-unfolding right
 table-width kind column hk hc =
     let k : ℕ = kind * 4 + column in
     let row : k / 4 ≡ kind = omega arith in
     let place : k % 4 ≡ column = omega arith in
-    let test : right kind column ≡ true = rw (row, place) at (all-at (λ k. right (k / 4) (k % 4)) (kinds * 4) k all-right (omega arith)) in
-    let same : eqb (byte kind column) (width kind column) ≡ true = both-left _ (leb (byte kind column) 16) test in
-    let small : leb (byte kind column) 16 ≡ true = both-right (eqb (byte kind column) (width kind column)) _ test in
-    (eqb-true (byte kind column) (width kind column) same, leb-true (byte kind column) 16 small)
+    told (byte kind column) (width kind column) 16 (rw (row, place) at (all-at width-right (kinds * 4) k widths-right (omega arith)))
+
+-- so are the bits of all fields of each kind
+abbrev due-right : (kind : ℕ) → Bool
+due-right kind = right (entry kind / 2 ^ 32) (due kind) 64
+
+dues-right : all kinds due-right ≡ true
+unfolding all both right width fields
+dues-right = refl
+
+pub table-due : (kind : ℕ) → kind < kinds → (entry kind / 2 ^ 32 ≡ due kind) × (entry kind / 2 ^ 32 ≤ 64)
+table-due kind h = told (entry kind / 2 ^ 32) (due kind) 64 (all-at due-right kinds kind dues-right h)
 
 -- k is none of the numbers 1 to n, as the last arm of a `match` says it
 unfoldable pub Other : (n k : ℕ) → Type 0

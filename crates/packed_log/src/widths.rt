@@ -9,32 +9,34 @@ pub(crate) const KIND_WIDTH: usize = 4;
 // So many kinds there are, the end being the first.
 pub(crate) const KINDS: usize = 9;
 
-// The widths of the four columns of each kind, a byte for each column, the first column highest; 00 where there is no field.
-const WIDTHS: [u32; KINDS] = [
+// What the fields of each kind take: the bits of all of them, and below these the widths of the four columns, a byte for each, the first column
+// highest; 00 where there is no field.
+const WIDTHS: [u64; KINDS] = [
     // end
-    0x00_00_00_00,
+    0x00_00_00_00_00,
     // propose: office, parent, payload
-    0x05_08_10_00,
+    0x1D_05_08_10_00,
     // vote: office, message
-    0x05_0A_00_00,
+    0x0F_05_0A_00_00,
     // register: office, message
-    0x05_0A_00_00,
+    0x0F_05_0A_00_00,
     // finalise: office, block
-    0x05_08_00_00,
+    0x0D_05_08_00_00,
     // deliver: message, office
-    0x0A_05_00_00,
+    0x0F_0A_05_00_00,
     // bad send: sender, kind, signer, block
-    0x05_01_05_08,
+    0x13_05_01_05_08,
     // draft: parent, epoch, payload
-    0x08_09_10_00,
+    0x21_08_09_10_00,
     // advance
-    0x00_00_00_00,
+    0x00_00_00_00_00,
 ];
 
 // The entry of a kind. It goes by cases, so that each entry is a constant for the compiler.
-fn entry_of(kind: u8) -> u32
+fn entry_of(kind: u8) -> u64
     requires { ⌜ kind < kinds ⌝ }
-    ensures { λ r. ⌜ r ≡ ((width kind 0 * 256 + width kind 1) * 256 + width kind 2) * 256 + width kind 3 ⌝ }
+    ensures { λ r. ⌜ r ≡
+        (((due kind * 256 + width kind 0) * 256 + width kind 1) * 256 + width kind 2) * 256 + width kind 3 ⌝ }
 {
     match kind {
         1 => WIDTHS[1],
@@ -62,5 +64,5 @@ pub(crate) fn due_of(kind: u8) -> usize
     requires { ⌜ kind < kinds ⌝ }
     ensures { λ r. ⌜ (r ≡ due kind) × (r ≤ 64) ⌝ }
 {
-    width_of(kind, 0) + width_of(kind, 1) + width_of(kind, 2) + width_of(kind, 3)
+    (entry_of(kind) >> 32) as usize
 }

@@ -8,5 +8,5 @@ use Rattle.packed_log.proofs.widths.width_of.Tie as tie
 pub width-of-spec : {M : Type 1} → statement M
 width-of-spec =
     tie.close (tie.spec
-    (λ c κs. search needs) (λ c. search needs) (λ c. search needs) (λ c. search needs) (λ c. search needs) (λ c. search needs)
+    (λ c κs. search needs) (λ c. search needs) (λ c. search needs) (λ c. search needs)
     (λ c. rw (c .entry-of .ensures) (table-width (c .before .args .kind) (c .before .args .column) (omega arith) (omega arith))))
