@@ -8,7 +8,7 @@ ghost use Rattle.words.specs.Lent.{lent};
 ghost use Rattle.words.specs.Tests.{choose, either};
 ghost use Rattle.tables.specs.Blocks.{parentIn, epochIn};
 ghost use Rattle.tables.specs.Chains.{chainBy};
-ghost use Rattle.tables.specs.Searches.{messages, offices, viewIn, enoughIn, certifiedBy, certifiedIn, certifiedAbove, rankAbove, outranked, longestIn};
+ghost use Rattle.tables.specs.Searches.{messages, offices, viewIn, enoughIn, certifiedBy, certifiedAbove, rankAbove, outranked, longestIn};
 use crate::limits::office_count;
 use crate::scan::epoch_at;
 use crate::scan::parent_at;
@@ -194,30 +194,9 @@ pub fn is_longest<'a>(
     !is_outranked(view, parents, epochs, last, few, b, rank as u8)
 }
 
-// Block b is certified in office q's view.
-fn is_certified_in<'a>(
-    n: u8,
-    last: u8,
-    count: usize,
-    places: &'a [u64; 1024],
-    signers: &'a [u8; 1024],
-    about: &'a [u8; 1024],
-    parents: &'a [u8; 256],
-    epochs: &'a [u16; 256],
-    q: u8,
-    b: u8,
-) -> bool
-    requires { ⌜ n ≤ offices ⌝ }
-    ensures { λ r. ⌜ r ≡ certifiedIn (viewIn (lent places) (lent signers) (lent about) (min count messages) q)
-        (lent parents) (lent epochs) last n b ⌝ }
-{
-    let set = signers_of(places, signers, about, count, q, b);
-    is_certified(parents, epochs, last, n, b, set, EVERYONE)
-}
-
 // Every block of block b's chain above block `base` is certified in office q's view; where `base` is genesis or not on the chain, every block of
 // it. Where the base's chain is notarised there, this says whether b's is. The newest blocks are tested one by one: they are the likeliest to
-// lack signers, and often all that there are above the base.
+// lack signers, and often all that there are above the base. Where many messages are about one of them, the whole view is gathered at once.
 pub fn is_notarised_above<'a>(
     n: u8,
     last: u8,
@@ -241,18 +220,11 @@ pub fn is_notarised_above<'a>(
         if is_foot(at, base) {
             return true;
         }
-        if !is_certified_in(
-            few,
-            last,
-            count,
-            places,
-            signers,
-            about,
-            parents,
-            epochs,
-            q,
-            at,
-        ) {
+        let single = signers_of(places, signers, about, count, q, at);
+        if !single.known {
+            break;
+        }
+        if !is_certified(parents, epochs, last, few, at, single.set, EVERYONE) {
             return false;
         }
         at = parent_at(parents, last, at);

@@ -20,5 +20,4 @@ pub use stage::INBOX;
 pub use stage::TRANSIT;
 pub use stage::VIEW;
 pub use view::View;
-pub use view::signers_of;
 pub use view::view_of;

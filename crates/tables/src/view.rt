@@ -1,5 +1,6 @@
 // An office's view: who signed each block.
 ghost use mathlib.Core.Path.{_≡_};
+ghost use mathlib.Core.Bool.{true};
 ghost use Prim.Native.Nat.{_+_, _≤_, _<_, min};
 ghost use lib.Dec.{eqb};
 ghost use lib.ListN.{getD, set};
@@ -64,8 +65,7 @@ fn with_signer(set: u32, place: u64, q: u8, signer: u8, about: u8, b: u8) -> u32
     words::with_member(set, signer)
 }
 
-// Block b's signers by the messages before the chunk that starts at `from`, with those by the first `size` messages of the chunk. These are
-// looked at one by one only where the chunk has a message about that block at all.
+// Block b's signers by the messages before the chunk that starts at `from`, with those by the first `size` messages of the chunk.
 fn chunk_signers<'a>(
     places: &'a [u64; 1024],
     signers: &'a [u8; 1024],
@@ -79,9 +79,6 @@ fn chunk_signers<'a>(
     requires { ⌜ (from ≤ 960) × (size ≤ 64) × (set ≡ signersIn (now places) (now signers) (now about) from q b) ⌝ }
     ensures { λ r. ⌜ r ≡ signersIn (lent places) (lent signers) (lent about) (from + size) q b ⌝ }
 {
-    if !chunk_about(about, from, b) {
-        return set;
-    }
     let mut all = set;
     let mut i = 0;
     while i < size {
@@ -92,24 +89,42 @@ fn chunk_signers<'a>(
     all
 }
 
-// The signers of block b in office q's view: what the view has for that one block. The messages are looked at by chunks.
-pub fn signers_of<'a>(
+// What the view has for one block, where it is known.
+pub(crate) struct Single {
+    pub known: bool,
+    pub set: u32,
+}
+
+// So many chunks are read message by message for one block; where more are about it, the view of all blocks is cheaper.
+const FEW: usize = 4;
+
+// The signers of block b in office q's view, unless too many chunks of messages have one about it. The other chunks are passed over. A block's
+// number is below 256, as a caller that has it from a loop learns here.
+pub(crate) fn signers_of<'a>(
     places: &'a [u64; 1024],
     signers: &'a [u8; 1024],
     about: &'a [u8; 1024],
     count: usize,
     q: u8,
     b: u8,
-) -> u32
-    ensures { λ r. ⌜ r ≡ signersIn (lent places) (lent signers) (lent about) (min count messages) q b ⌝ }
+) -> Single
+    ensures { λ r. ⌜ (r .known ≡ true → r .set ≡ signersIn (lent places) (lent signers) (lent about) (min count messages) q b)
+        × (b < blocks) ⌝ }
 {
     let sent = message_count(count);
     let mut set = 0;
+    let mut read = 0;
     let mut from = 0;
     while from < sent {
         let size = chunk_size(from, sent);
-        set = chunk_signers(places, signers, about, from, size, q, b, set);
+        if chunk_about(about, from, b) {
+            if read == FEW {
+                return Single { known: false, set };
+            }
+            set = chunk_signers(places, signers, about, from, size, q, b, set);
+            read += 1;
+        }
         from += size;
     }
-    set
+    Single { known: true, set }
 }

@@ -8,8 +8,9 @@ use native.Mathlib.Omega.{arith}
 use borrow.Author.Tests.{not-true, not-false}
 use lib.Dec.{eqb}
 use Rattle.words.specs.Tests.{either}
-use Rattle.tables.specs.Searches.{messages, viewIn, certifiedAbove}
-use Rattle.tables.proofs.Searching.{foot-certified, next-certified, stop-certified, rank-test}
+use Rattle.tables.specs.Searches.{messages, viewIn, certifiedBy, certifiedIn, certifiedAbove}
+use Rattle.tables.proofs.Views.{view-entry}
+use Rattle.tables.proofs.Searching.{everyone-enough, foot-certified, next-certified, stop-certified, rank-test}
 use Rattle.tables.proofs.chain.is_notarised_above.Statement.{statement}
 use Rattle.tables.proofs.chain.is_notarised_above.Tie as tie
 
@@ -36,20 +37,33 @@ unended : (c : tie.Else1 Inv-loop μ-loop)
     → either (eqb (c .before .before .before .loop .at) 0) (eqb (c .before .before .before .loop .at) (c .before .before .before .before .before .args .base)) ≡ false
 unended c = sym (c .before .is-foot .ensures) ∙ c .if1 .left
 
+-- the test of a turn, said of the view: a set that is known is what the view has for the block
+tested : (c : tie.After-is-certified Inv-loop μ-loop)
+    → (let at-loop = c .before .before .before .before .before .before .before in
+    let start = at-loop .before .before in
+    c .is-certified .result
+    ≡ certifiedIn (seen start) (start .args .parents .now) (start .args .epochs .now) (start .args .last) (at-loop .before .office-count .result)
+    (at-loop .loop .at))
+unfolding certifiedIn certifiedBy
+tested c =
+    let single = c .before .before .before .signers-of .ensures in
+    c .is-certified .ensures
+    ∙ rw (single .0 (not-false _ (c .before .if2 .left)), view-entry _ _ _ _ _ (c .before .before .before .before .before .before .before .loop .at) (single .1))
+
 returns-2 : tie.Need-returns-2 Inv-loop μ-loop
 returns-2 c =
-    let at-loop = c .before .before .before .before .before in
+    let at-loop = c .before .before .before .before .before .before .before .before in
     let start = at-loop .before .before in
-    let stop = stop-certified (seen start) (start .args .parents .now) (start .args .epochs .now) _ _ _ _ (unended (c .before .before)) _
-    (c .before .is-certified-in .ensures) (not-true _ (c .if2 .taken)) in
+    let stop = stop-certified (seen start) (start .args .parents .now) (start .args .epochs .now) _ _ _ _
+    (unended (c .before .before .before .before .before)) _ (tested (c .before)) (not-true _ (c .if3 .taken)) in
     rw (← (at-loop .before .office-count .ensures)) (sym (at-loop .loop .inv .1 ∙ stop))
 
 loop-again : tie.Need-loop-again Inv-loop μ-loop
 loop-again c =
-    let at-loop = c .before .before .before .before .before .before in
+    let at-loop = c .before .before .before .before .before .before .before .before .before in
     let start = at-loop .before .before in
-    let next = next-certified (seen start) (start .args .parents .now) (start .args .epochs .now) _ _ _ _ (unended (c .before .before .before)) _
-    (c .before .before .is-certified-in .ensures) (not-false _ (c .before .if2 .left)) in
+    let next = next-certified (seen start) (start .args .parents .now) (start .args .epochs .now) _ _ _ _
+    (unended (c .before .before .before .before .before .before)) _ (tested (c .before .before)) (not-false _ (c .before .if3 .left)) in
     (omega arith, rw (c .parent-at .ensures) (at-loop .loop .inv .1 ∙ next))
 
 returns-3 : tie.Need-returns-3 Inv-loop μ-loop
@@ -60,8 +74,8 @@ returns-3 c =
 pub is-notarised-above-spec : {M : Type 1} → statement M
 is-notarised-above-spec =
     tie.close
-    (tie.spec Inv-loop μ-loop (λ c κs. search needs) (λ c. (search needs, refl)) (λ c κs. search needs) returns
-    (λ c κs. omega (arith, c .before .before .before .before .office-count .ensures))
+    (tie.spec Inv-loop μ-loop (λ c κs. search needs) (λ c. (search needs, refl)) (λ c κs. search needs) returns (λ c κs. search needs)
+    (λ c κs. everyone-enough _ (omega (arith, c .before .before .before .before .before .before .before .office-count .ensures)))
     returns-2 (λ c κs. search needs) (λ c. search needs) (λ c. search needs) loop-again (λ c κs. search needs)
     (λ c κs. omega (arith, c .before .before .before .before .office-count .ensures))
     returns-3)

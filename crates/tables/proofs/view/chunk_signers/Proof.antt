@@ -1,12 +1,11 @@
 -- `tables::view::chunk_signers`: at each turn the set holds the block's signers by the messages before the chunk and its first i.
 use borrow.Author.Needs.{needs}
 use Prim.Native.Nat.{_+_, _-_, _≤_}
-use mathlib.Core.Path.{_≡_, sym, _∙_}
+use mathlib.Core.Path.{_≡_}
 use native.Mathlib.Omega.{arith}
 use native.Mathlib.Nat.{add-zero}
-use borrow.Author.Tests.{not-true}
 use Rattle.tables.specs.Searches.{signersIn}
-use Rattle.tables.proofs.Views.{signers-next, signers-past}
+use Rattle.tables.proofs.Views.{signers-next}
 use Rattle.tables.proofs.view.chunk_signers.Statement.{statement}
 use Rattle.tables.proofs.view.chunk_signers.Tie as tie
 
@@ -17,31 +16,24 @@ Inv-loop places signers about from size q b set all₀ i₀ all i =
 abbrev μ-loop : tie.MeasureT-loop
 μ-loop places signers about from size q b set all₀ i₀ all i = size - i
 
-returns : tie.Need-returns Inv-loop μ-loop
-returns c =
-    let start = c .before .before in
-    let a = start .args in
-    signers-past (a .places .now) (a .signers .now) (a .about .now) (a .q) (a .b) (a .from) (a .size) (a .set) (start .pre .1)
-    (start .pre .2) (sym (c .before .chunk-about .ensures) ∙ not-true _ (c .if1 .taken))
-
 loop-again : tie.Need-loop-again Inv-loop μ-loop
 loop-again c =
     let at-loop = c .before .before .before .before .before in
-    let a = at-loop .before .before .before .args in
+    let a = at-loop .before .args in
     let turn = at-loop .loop in (
       omega arith,
       signers-next (a .places .now) (a .signers .now) (a .about .now) (a .q) (a .b) (a .from) (turn .i) (turn .all) (c .with-signer .result)
           (turn .inv .1) (c .with-signer .ensures),
     )
 
-returns-2 : tie.Need-returns-2 Inv-loop μ-loop
-returns-2 c =
-    let end : c .before .loop .i ≡ c .before .before .before .before .args .size = omega arith in
+returns : tie.Need-returns Inv-loop μ-loop
+returns c =
+    let end : c .before .loop .i ≡ c .before .before .args .size = omega arith in
     rw end at (c .before .loop .inv .1)
 
 pub chunk-signers-spec : {M : Type 1} → statement M
 chunk-signers-spec =
     tie.close
-    (tie.spec Inv-loop μ-loop (λ c κs. search needs) returns (λ c. (search needs, rw add-zero (c .before .before .pre .2)))
+    (tie.spec Inv-loop μ-loop (λ c. (search needs, rw add-zero (c .pre .2)))
     (λ c. search needs) (λ c. search needs) (λ c. search needs) (λ c. search needs) (λ c. search needs) (λ c κs. search needs)
-    (λ c. search needs) (λ c. search needs) loop-again returns-2)
+    (λ c. search needs) (λ c. search needs) loop-again returns)

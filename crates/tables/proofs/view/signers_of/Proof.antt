@@ -1,38 +1,52 @@
 -- `tables::view::signers_of`: at each turn the set holds the block's signers by the messages before the chunk.
 use borrow.Author.Needs.{needs}
-use Prim.Native.Nat.{_-_, min}
-use mathlib.Core.Path.{_≡_, refl}
+use Prim.Native.Nat.{_-_, _≤_, min}
+use mathlib.Core.Path.{_≡_, refl, sym, _∙_}
+use mathlib.Core.Bool.{true≢false}
+use mathlib.Core.Logic.{⊎-elim}
 use native.Mathlib.Omega.{arith}
 use Rattle.tables.specs.Searches.{messages, signersIn}
 use Rattle.tables.proofs.Scans.{AtChunk, past-chunk}
-use Rattle.tables.proofs.Views.{signers-none}
+use Rattle.tables.proofs.Views.{signers-none, signers-past}
 use Rattle.tables.proofs.view.signers_of.Statement.{statement}
 use Rattle.tables.proofs.view.signers_of.Tie as tie
 
 abbrev Inv-loop : tie.InvT-loop
-Inv-loop places signers about count q b sent set₀ from₀ set from = AtChunk from sent × (set ≡ signersIn places signers about from q b)
+Inv-loop places signers about count q b sent set₀ read₀ from₀ set read from =
+    AtChunk from sent × (set ≡ signersIn places signers about from q b) × (read ≤ 4)
 
 abbrev μ-loop : tie.MeasureT-loop
-μ-loop places signers about count q b sent set₀ from₀ set from = sent - from
+μ-loop places signers about count q b sent set₀ read₀ from₀ set read from = sent - from
 
 chunk-signers-requires : tie.Need-chunk-signers-requires Inv-loop μ-loop
 chunk-signers-requires c κs =
-    let at-test = c .before in
+    let at-test = c .before .before .before .before in
     let turn = at-test .before .loop in
     (omega (arith, turn .inv .0 .1 (at-test .loop-test .taken)), search needs, turn .inv .1)
 
+-- a chunk without a message about the block adds no signer, and no chunk that is read
 loop-again : tie.Need-loop-again Inv-loop μ-loop
 loop-again c =
-    let at-test = c .before .before in
-    (past-chunk _ _ _ (at-test .before .loop .inv .0) (at-test .loop-test .taken) (c .before .chunk-size .ensures), c .chunk-signers .ensures)
+    let at-test = c .before .before .before in
+    let a = at-test .before .before .before .args in
+    let turn = at-test .before .loop in (
+      past-chunk _ _ _ (turn .inv .0) (at-test .loop-test .taken) (c .before .before .chunk-size .ensures),
+      ⊎-elim (λ w. w .3 ∙ w .2 .ensures)
+          (λ w. w .1 ∙ signers-past (a .places .now) (a .signers .now) (a .about .now) (a .q) (a .b) _ _ _ (search needs) (turn .inv .1)
+          (sym (c .before .chunk-about .ensures) ∙ w .0 .left))
+          (c .if1 .came),
+      ⊎-elim (λ w. rw (w .4) (omega (arith, turn .inv .2, w .1 .left))) (λ w. rw (w .2) (turn .inv .2)) (c .if1 .came),
+    )
 
-returns : tie.Need-returns Inv-loop μ-loop
-returns c =
+returns-2 : tie.Need-returns-2 Inv-loop μ-loop
+returns-2 c =
     let end : c .before .loop .from ≡ min (c .before .before .before .args .count) messages = omega arith in
-    rw end at (c .before .loop .inv .1)
+    (λ _. rw end at (c .before .loop .inv .1), search needs)
 
 pub signers-of-spec : {M : Type 1} → statement M
 signers-of-spec =
     tie.close
-    (tie.spec Inv-loop μ-loop (λ c κs. search needs) (λ c. ((search needs, λ _. refl), signers-none _ _ _ _ _)) (λ c κs. search needs)
-    chunk-signers-requires (λ c. search needs) (λ c. search needs) loop-again returns)
+    (tie.spec Inv-loop μ-loop (λ c κs. search needs) (λ c. ((search needs, λ _. refl), signers-none _ _ _ _ _, search needs)) (λ c κs. search needs)
+    (λ c κs. omega (arith, c .before .before .loop .inv .0 .1 (c .before .loop-test .taken)))
+    (λ c. (λ known. absurd (true≢false (sym known)), search needs))
+    chunk-signers-requires (λ c. search needs) (λ c. search needs) (λ c. search needs) loop-again returns-2)
