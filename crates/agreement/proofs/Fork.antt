@@ -26,7 +26,7 @@ use Rattle.register.specs.Fitness.{countsFit, blockFits, messageFits, stateFits
 use Rattle.register.specs.Refusals.{finalises}
 use Rattle.register.specs.Opening.{leaderTable, blank, freshBook, fresh, opening}
 use Rattle.register.specs.Effects.{withBlock, withNamed, sentStage, withSent, withMoved, withActed, withState, withNextEpoch}
-use Rattle.register.specs.Steps.{propose, vote, register, finalise, deliver, badSend, draft, advance, ruleOf, refusal, judged, bookRule, stepRule}
+use Rattle.register.specs.Steps.{ruleOf, refusal, judged, bookRule, stepRule}
 use Rattle.register.specs.Runs.{afterSteps, answers, Run, opened, moment}
 use Rattle.agreement.specs.Claim.{chainOf, finalChain, Trusted, Notarised, Begins, AtLeastAsLong, Agreement}
 use Rattle.agreement.proofs.Agreement.{agreement}
@@ -115,7 +115,7 @@ pub record Forked : Type 0 where
 
 -- it does, as the rules compute
 pub fork-shows : Forked
-unfolding finalChain chainOf Trusted Notarised moment fork fork-steps answers afterSteps stepRule bookOf registerOf opened opening fresh openingRefusal untrusted tooMany stray choose both either between conj all any lowest every tally weigh unit digit fill withMember withStage first enough trustedIn madeIn parentIn epochIn matchesIn namedIn saysIn climb chainBy isVote stage signed notarised chain chainNotarised longest countsFit blockFits messageFits stateFits fit finalises leaderTable blank freshBook withBlock withNamed sentStage withSent withMoved withActed withState withNextEpoch propose vote register finalise deliver badSend draft advance ruleOf refusal judged bookRule
+unfolding finalChain chainOf Trusted Notarised moment fork fork-steps answers afterSteps stepRule bookOf registerOf opened opening fresh openingRefusal untrusted tooMany stray choose both either between conj all any lowest every tally weigh unit digit fill withMember withStage first enough trustedIn madeIn parentIn epochIn matchesIn namedIn saysIn climb chainBy isVote stage signed notarised chain chainNotarised longest countsFit blockFits messageFits stateFits fit finalises leaderTable blank freshBook withBlock withNamed sentStage withSent withMoved withActed withState withNextEpoch ruleOf refusal judged bookRule
 fork-shows =
     record {
       accepted = refl;

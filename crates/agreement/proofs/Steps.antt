@@ -29,7 +29,7 @@ use Rattle.register.specs.Views.{says}
 use Rattle.register.specs.Chains.{longest}
 use Rattle.register.specs.Refusals.{inHistory}
 use Rattle.register.specs.Effects.{withBlock, withNamed, withSent, withMoved, withActed, withState, withNextEpoch}
-use Rattle.register.specs.Steps.{propose, vote, register, finalise, deliver, badSend, draft, advance, ruleOf, bookRule}
+use Rattle.register.specs.Steps.{propose, vote, finalise, badSend, ruleOf, bookRule}
 use Rattle.register.specs.Promises.{Sizes}
 use Rattle.register.proofs.Tables.{signer-new, about-new}
 use Rattle.register.proofs.Accepted.{Accepted, Signs, trusted-below}
@@ -132,7 +132,7 @@ sizes-named r new s =
 -- propose: the block named is of the current epoch, on the parent that was given
 lawful-propose : (r : Book) (office : Office) (parent : Block) (w : ℕ) → Ranges r → Accepted r (Step.Propose office parent w)
     → Grows r (propose r office parent w .effect) → Lawful r (propose r office parent w .effect)
-unfolding propose withBlock
+unfolding withBlock
 lawful-propose r office parent w z a grows =
     let new : Header = record { parent = parent; epoch = r .epoch; payload = w } in
     let next : Book = withNamed r new in
@@ -153,7 +153,7 @@ lawful-propose r office parent w z a grows =
 -- vote: the block is that of a message sent
 lawful-vote : (r : Book) (office : Office) (message : Message) → Ranges r → Accepted r (Step.Vote office message)
     → Grows r (vote r office message .effect) → Lawful r (vote r office message .effect)
-unfolding vote withMoved
+unfolding withMoved
 lawful-vote r office message z a grows =
     let b : ℕ = aboutOf r (message .0) in
     let s = z .sizes in
@@ -195,7 +195,7 @@ finals-after r q c p state is three = by (ℕ-discrete p q) (decLt q (length (r 
 
 lawful-finalise : (r : Book) (office : Office) (newest : Block) → Accepted r (Step.Finalise office newest)
     → Grows r (finalise r office newest .effect) → Lawful r (finalise r office newest .effect)
-unfolding finalise withState
+unfolding withState
 lawful-finalise r office newest a grows =
     record {
       grows = grows;
@@ -217,7 +217,7 @@ in-history r kind h b t =
 lawful-bad-send : (r : Book) (sender : Office) (kind : Kind) (signer : Office) (about : Block) → Ranges r
     → Accepted r (Step.BadSend sender kind signer about) → Grows r (badSend r sender kind signer about .effect)
     → Lawful r (badSend r sender kind signer about .effect)
-unfolding badSend withSent
+unfolding withSent
 lawful-bad-send r sender kind signer about z a grows =
     let new : Content = record { kind = kind; signer = signer; about = about } in
     record {
@@ -243,7 +243,7 @@ lawful-quiet r s grows epoch marks count states =
 
 -- every accepted step
 lawful-accepted : (r : Book) (step : Step) → Ranges r → Accepted r step → Grows r (ruleOf r step .effect) → Lawful r (ruleOf r step .effect)
-unfolding ruleOf register deliver draft advance withMoved withBlock withNextEpoch
+unfolding ruleOf withMoved withBlock withNextEpoch
 lawful-accepted r (Step.Propose office parent w) z a g = lawful-propose r office parent w z a g
 lawful-accepted r (Step.Vote office message) z a g = lawful-vote r office message z a g
 lawful-accepted r (Step.Register office message) z a g = lawful-quiet r _ g refl refl refl refl

@@ -22,11 +22,11 @@ messageKind = 1
 abbrev epoch : ℕ
 epoch = 9
 
--- so many kinds there are, the end being the first: 0 to 8
+-- so many kinds there are, the end being the first
 abbrev pub kinds : ℕ
 kinds = 9
 
--- the fields of each kind, in the order of the kinds: end, propose, vote, register, finalise, deliver, bad send, draft, advance
+-- the fields of each kind, in the order of the kinds; the end, which has none, is the first
 unfoldable pub fields : List (List ℕ)
 fields =
     []

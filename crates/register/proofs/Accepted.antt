@@ -76,7 +76,6 @@ Accepted r Step.Advance = r .epoch .0 < r .scheduled
 module _ (r : Book) where
   proposes : (office : Office) (parent : Block) (w : ℕ) → first (propose r office parent w .tests) ≡ 0
       → Accepted r (Step.Propose office parent w)
-  unfolding propose
   proposes office parent w h =
       let fails = clear (propose r office parent w .tests) h in
       record {
@@ -93,7 +92,6 @@ module _ (r : Book) where
       }
 
   votes : (office : Office) (message : Message) → first (vote r office message .tests) ≡ 0 → Accepted r (Step.Vote office message)
-  unfolding vote
   votes office message h =
       let fails = clear (vote r office message .tests) h in
       record {
@@ -110,7 +108,6 @@ module _ (r : Book) where
       }
 
   finalised : (office : Office) (newest : Block) → first (finalise r office newest .tests) ≡ 0 → Accepted r (Step.Finalise office newest)
-  unfolding finalise
   finalised office newest h =
       let fails = clear (finalise r office newest .tests) h in
       record {
@@ -121,7 +118,6 @@ module _ (r : Book) where
 
   bad-sends : (sender : Office) (kind : Kind) (signer : Office) (about : Block) → first (badSend r sender kind signer about .tests) ≡ 0
       → Accepted r (Step.BadSend sender kind signer about)
-  unfolding badSend
   bad-sends sender kind signer about h =
       let fails = clear (badSend r sender kind signer about .tests) h in
       let none : about .0 ≡ 0 → ⊥ = eqb-false _ 0 (either-false-left _ _ (fails .1 .0)) in
@@ -135,7 +131,7 @@ module _ (r : Book) where
 
   -- a step of which no test holds
   pub accepted : (step : Step) → first (ruleOf r step .tests) ≡ 0 → Accepted r step
-  unfolding ruleOf register deliver draft advance
+  unfolding ruleOf
   accepted (Step.Propose office parent w) h = proposes office parent w h
   accepted (Step.Vote office message) h = votes office message h
   accepted (Step.Register office message) h = in-hand r (office .0) (message .0) (clear (register r office message .tests) h .1 .1 .1 .0)

@@ -12,7 +12,7 @@ use Rattle.register.specs.Books.{block, scalarsOf}
 use Rattle.register.specs.Tables.{stateOf, parentOf, named, aboutOf}
 use Rattle.register.specs.Refusals.{blocksFull}
 use Rattle.register.specs.Effects.{withState, finalising}
-use Rattle.register.specs.Steps.{Outcome, refusal, judged, ruleOf, propose, vote, register, finalise, deliver, badSend, draft, advance}
+use Rattle.register.specs.Steps.{Outcome, refusal, judged, ruleOf}
 use Rattle.register.specs.Lent.{Counted, readBook}
 use Rattle.register.specs.Changes.{unchangedOf, refusing, accepting, naming, holding, entriesOf, changeBy, changeOf}
 use Rattle.register.specs.Settled.{actorOf}
@@ -21,11 +21,14 @@ use Rattle.register.proofs.Naming.{named-room}
 use Rattle.register.proofs.Writing.{written, same, writes-nothing, writes-moved, writes-state, writes-epoch, writes-sent, writes-vote, writes-named, writes-propose}
 
 -- every entry of a change is within its table
-pub record InTables (c : Change) : Type 0 where
-  pub block : c .block .at < 256
-  pub message : c .message .at < 1024
-  pub place : c .place .at < 1024
-  pub office : c .office .at < 32
+pub record InBounds (b m p q : ℕ) : Type 0 where
+  pub block : b < 256
+  pub message : m < 1024
+  pub place : p < 1024
+  pub office : q < 32
+
+abbrev pub InTables : Change → Type 0
+InTables c = InBounds (c .block .at) (c .message .at) (c .place .at) (c .office .at)
 
 -- what a change gives once it is written
 abbrev pub outcome : Book → Change → Outcome
@@ -41,6 +44,10 @@ abbrev Enters : Book → Step → Change → Type 0
 Enters r step c = (written r c ≡ ruleOf r step .effect) × InTables c
 
 module _ (r : Book) (at : ℕ) (within : at < 32) where
+  -- the entries of the change that leaves the book as it is
+  still : InBounds 0 0 0 at
+  still = record { block = omega arith; message = omega arith; place = omega arith; office = within }
+
   -- a refused step
   refuses : (fits : Bool) (step : Step) (k : ℕ) → refusal fits (ruleOf r step) ≡ k → eqb k 0 ≡ false
       → CarriesOut fits r step (refusing (same r at) k)
@@ -48,7 +55,7 @@ module _ (r : Book) (at : ℕ) (within : at < 32) where
   refuses fits step k is some =
       record {
         answer = rw (is, some) (λ i. record { book = writes-nothing r at i; refusal = k; value = 0 });
-        within = record { block = omega arith; message = omega arith; place = omega arith; office = within };
+        within = still;
       }
 
   -- an accepted step, by its entries
@@ -56,11 +63,7 @@ module _ (r : Book) (at : ℕ) (within : at < 32) where
       → CarriesOut true r step (accepting c (ruleOf r step .value))
   unfolding judged refusal first choose written
   takes step c none enters =
-      let w = enters .1 in
-      record {
-        answer = rw none (λ i. record { book = enters .0 i; refusal = 0; value = ruleOf r step .value });
-        within = record { block = w .block; message = w .message; place = w .place; office = w .office };
-      }
+      record { answer = rw none (λ i. record { book = enters .0 i; refusal = 0; value = ruleOf r step .value }); within = enters .1 }
 
   module _ (c : Counted (scalarsOf r)) where
     -- the entry of a block that is named
@@ -74,45 +77,40 @@ module _ (r : Book) (at : ℕ) (within : at < 32) where
 
     -- the entries of each accepted step; the office that finalises is the acting one
     enters : (step : Step) → (actorOf step .0 < 32 → at ≡ actorOf step .0) → Accepted r step → Enters r step (entriesOf (same r at) r step)
-    unfolding entriesOf ruleOf finalise unchangedOf naming actorOf
+    unfolding entriesOf ruleOf unchangedOf naming actorOf
     enters (Step.Propose office parent w) own a =
         let new : Header = record { parent = parent; epoch = r .epoch; payload = w } in (
-          unfold propose in writes-propose r at new office,
+          writes-propose r at new office,
           record { block = named-entry new (a .blocks); message = a .signs .room; place = a .signs .room; office = within },
         )
     enters (Step.Vote office message) own a = (
-      unfold vote in writes-vote r at (message .0) (aboutOf r (message .0)) office (λ e. omega (arith, a .message .sent)),
+      writes-vote r at (message .0) (aboutOf r (message .0)) office (λ e. omega (arith, a .message .sent)),
       record { block = omega arith; message = a .signs .room; place = omega (arith, a .message .sent, c .messages); office = within },
     )
     enters (Step.Register office message) own a = (
-      unfold register in writes-moved r at (message .0) (office .0) 3,
+      writes-moved r at (message .0) (office .0) 3,
       record { block = omega arith; message = omega arith; place = omega (arith, a .sent, c .messages); office = within },
     )
     enters (Step.Finalise office newest) own a =
         let is : at ≡ office .0 = own (omega (arith, trusted-below r (office .0) (a .trusted), c .offices)) in
         let new : ℕ → OfficeState = λ q. finalising (stateOf r q) (parentOf r (newest .0)) in
         let wrote : written r (holding (same r at) (new at)) ≡ withState r (office .0) (new (office .0)) =
-        writes-state r at (new at) ∙ ap (λ (q : ℕ). withState r q (new q)) is in (
-          wrote,
-          record { block = omega arith; message = omega arith; place = omega arith; office = within },
-        )
+        writes-state r at (new at) ∙ ap (λ (q : ℕ). withState r q (new q)) is in
+        (wrote, still)
     enters (Step.Deliver message office) own a = (
-      unfold deliver in writes-moved r at (message .0) (office .0) 2,
+      writes-moved r at (message .0) (office .0) 2,
       record { block = omega arith; message = omega arith; place = omega (arith, a .sent, c .messages); office = within },
     )
     enters (Step.BadSend sender kind signer about) own a = (
-      unfold badSend in writes-sent r at (sender .0) (record { kind = kind; signer = signer; about = about }),
+      writes-sent r at (sender .0) (record { kind = kind; signer = signer; about = about }),
       record { block = omega arith; message = a .room; place = a .room; office = within },
     )
     enters (Step.Draft parent epoch w) own a =
         let new : Header = record { parent = parent; epoch = epoch; payload = w } in (
-          unfold draft in writes-named r at new,
+          writes-named r at new,
           record { block = named-entry new (a .blocks); message = omega arith; place = omega arith; office = within },
         )
-    enters Step.Advance own a = (
-      unfold advance in writes-epoch r at,
-      record { block = omega arith; message = omega arith; place = omega arith; office = within },
-    )
+    enters Step.Advance own a = (writes-epoch r at, still)
 
     -- a step of a fit book, by the first of its tests that holds
     carries-by : (step : Step) (k : ℕ) (t : Bool) → (actorOf step .0 < 32 → at ≡ actorOf step .0) → first (ruleOf r step .tests) ≡ k

@@ -36,7 +36,7 @@ module _ (n trust : ℕ) (schedule : List ℕ) where
               blocks = omega arith;
               messages = omega arith;
             };
-        leaders = λ i l.
+        fixed = λ i l.
             subst⁻¹ (λ (x : ℕ). x < n) (List·getD-append schedule _ 0 i l)
             (leb-false _ _ (any-none _ (length schedule) i (fails .1 .1 .0) l));
         blocks = λ k l. absurd (omega arith);

@@ -14,7 +14,7 @@ use Rattle.register.specs.Tables.{Content, trusted}
 use Rattle.register.specs.Fitness.{fit}
 use Rattle.register.specs.Refusals.{blocksFull}
 use Rattle.register.specs.Effects.{withBlock, withNamed, withSent, withMoved, withActed, withState, withNextEpoch}
-use Rattle.register.specs.Steps.{propose, vote, register, finalise, deliver, badSend, draft, advance, refusal, judged, ruleOf, bookRule}
+use Rattle.register.specs.Steps.{propose, vote, refusal, judged, ruleOf, bookRule}
 use Rattle.register.specs.Promises.{Sizes, StepsKeepFit}
 use Rattle.register.proofs.Typing.{step-book}
 use Rattle.register.proofs.Chains.{parent-le}
@@ -45,7 +45,7 @@ module _ {r : Book} (z : Ranges r) where
       let s = z .sizes in
       record {
         counts = recounted c refl refl first now (c .blocks) (c .messages);
-        leaders = z .leaders;
+        fixed = z .fixed;
         blocks = z .blocks;
         messages = z .messages;
         finals = finals;
@@ -87,7 +87,7 @@ module _ {r : Book} (z : Ranges r) where
       let s = z .sizes in
       record {
         counts = recounted c refl refl (c .first) (c .current) (omega arith) (c .messages);
-        leaders = z .leaders;
+        fixed = z .fixed;
         blocks = λ k l. (
           stored (λ (x : ℕ). x < k + 1) (r .parents) b (new .parent .0) (k + 1) 0 (λ h. omega arith) (λ h. omega arith)
               (λ d. z .blocks k (omega (arith, d)) .0),
@@ -115,7 +115,7 @@ module _ {r : Book} (z : Ranges r) where
       let s = z .sizes in
       record {
         counts = recounted c refl refl (c .first) (c .current) (c .blocks) (omega arith);
-        leaders = z .leaders;
+        fixed = z .fixed;
         blocks = z .blocks;
         messages = λ x l. (
           stored (λ (x : ℕ). x < r .n) (r .signers) m (new .signer .0) x 0 (λ e. signer) (λ h. omega arith)
@@ -140,7 +140,7 @@ module _ {r : Book} (z : Ranges r) where
 -- propose: the parent is there, the epoch is one of the schedule's, and the signer is an office
 ranges-propose : (r : Book) (office : Office) (parent : Block) (w : ℕ) → Ranges r → Accepted r (Step.Propose office parent w)
     → Ranges (propose r office parent w .effect)
-unfolding propose withBlock
+unfolding withBlock
 ranges-propose r office parent w z a =
     let new : Header = record { parent = parent; epoch = r .epoch; payload = w } in
     let n-kept : withNamed r new .n ≡ r .n = named-keeps r new (λ (x : Book). x .n) refl in
@@ -153,7 +153,7 @@ ranges-propose r office parent w z a =
 -- vote: the block is that of a message sent
 ranges-vote : (r : Book) (office : Office) (message : Message) → Ranges r → Accepted r (Step.Vote office message)
     → Ranges (vote r office message .effect)
-unfolding vote withMoved
+unfolding withMoved
 ranges-vote r office message z a =
     ranges-acted
     (ranges-sent (ranges-moved z (message .0) (office .0) 3) (office .0) _ (a .signs .room)
@@ -162,7 +162,7 @@ ranges-vote r office message z a =
 
 -- every accepted step
 ranges-accepted : (r : Book) (step : Step) → Ranges r → Accepted r step → Ranges (ruleOf r step .effect)
-unfolding ruleOf register finalise deliver badSend draft advance
+unfolding ruleOf
 ranges-accepted r (Step.Propose office parent w) z a = ranges-propose r office parent w z a
 ranges-accepted r (Step.Vote office message) z a = ranges-vote r office message z a
 ranges-accepted r (Step.Register office message) z a = ranges-moved z (message .0) (office .0) 3

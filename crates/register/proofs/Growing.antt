@@ -16,7 +16,7 @@ use Rattle.register.specs.Books.{epoch, blocksOf, messagesOf, changed}
 use Rattle.register.specs.Tables.{Content, trusted}
 use Rattle.register.specs.Views.{inView, stage}
 use Rattle.register.specs.Effects.{withBlock, withNamed, withSent, withMoved, withActed, withState, withNextEpoch}
-use Rattle.register.specs.Steps.{propose, vote, register, finalise, deliver, badSend, draft, advance, ruleOf}
+use Rattle.register.specs.Steps.{ruleOf}
 use Rattle.register.proofs.Tables.{header-other, content-other}
 use Rattle.register.proofs.Places.{Placed, placed, placed-stage, placed-within}
 use Rattle.register.proofs.Accepted.{Accepted, trusted-below}
@@ -137,7 +137,7 @@ grows-moved r m q k s few low here =
 
 -- every accepted step
 pub grows-step : (r : Book) (step : Step) → r .n ≤ 32 → Accepted r step → Grows r (ruleOf r step .effect)
-unfolding ruleOf propose vote register finalise deliver badSend draft advance
+unfolding ruleOf
 grows-step r (Step.Propose office parent w) few a =
     grows-trans (grows-named r _) (grows-trans (grows-sent _ (office .0) _) (grows-acted _ (office .0)))
 grows-step r (Step.Vote office message) few a =

@@ -10,8 +10,8 @@ use Rattle.register.specs.Views.{stage, signed, notarised}
 use Rattle.register.specs.Chains.{chain, chainNotarised, longest}
 use Rattle.register.specs.Refusals.{finalises}
 use Rattle.register.specs.Effects.{sentStage}
-use Rattle.register.specs.Steps.{ruleOf, propose, vote, register, finalise, deliver, badSend, draft, advance}
-use Rattle.register.specs.Lent.{BlockColumns, MessageColumns, blocks, noBlocks, messages, noMessages, wholeBook, lentBook}
+use Rattle.register.specs.Steps.{ruleOf}
+use Rattle.register.specs.Lent.{BlockColumns, MessageColumns, blocks, noBlocks, messages, noMessages, nothing, wholeBook, lentBook}
 use Rattle.register.specs.Changes.{unchangedOf, refusing, entriesOf, changeBy, changeOf, ChangeFor}
 use Rattle.register.specs.Settled.{Base}
 
@@ -22,9 +22,9 @@ pub record Lent : Type 0 where
   pub blocks : BlockColumns
   pub messages : MessageColumns
 
--- the book of that, in which the offices hold that
-abbrev pub given : Lent → List OfficeState → Book
-given l offices = wholeBook (l .scalars) (l .leaders) (l .blocks) (l .messages) offices
+-- the book of that, whose other columns are those of that book
+abbrev pub given : Lent → Book → Book
+given l rest = wholeBook (l .scalars) (l .leaders) (l .blocks) (l .messages) rest
 
 -- the columns of blocks, and of messages, that a search reads
 abbrev searchedBlocks : Lent → BlockColumns
@@ -34,57 +34,57 @@ abbrev searchedMessages : Lent → MessageColumns
 searchedMessages l = messages [] (l .messages .signers) (l .messages .about) (l .messages .places)
 
 -- a base by all that is lent is one by what a search reads
-pub base-lent : (l : Lent) (q b : ℕ) → Base (given l []) q b → Base (lentBook (l .scalars) [] (searchedBlocks l) (searchedMessages l)) q b
+pub base-lent : (l : Lent) (q b : ℕ) → Base (given l nothing) q b → Base (lentBook (l .scalars) [] (searchedBlocks l) (searchedMessages l)) q b
 unfolding chainNotarised notarised signed stage chain
 base-lent l q b known = known
 
-module _ (l : Lent) (offices : List OfficeState) (c : Change) where
+module _ (l : Lent) (rest : Book) (c : Change) where
   pub lent-propose : (office : Office) (parent : Block) (w : ℕ)
       → changeBy c (lentBook (l .scalars) (l .leaders) (l .blocks) (searchedMessages l)) (Step.Propose office parent w)
-      ≡ changeBy c (given l offices) (Step.Propose office parent w)
-  unfolding changeBy ruleOf entriesOf propose longest chainNotarised notarised signed stage chain sentStage
+      ≡ changeBy c (given l rest) (Step.Propose office parent w)
+  unfolding changeBy ruleOf entriesOf longest chainNotarised notarised signed stage chain sentStage
   lent-propose office parent w = refl
 
   pub lent-vote : (office : Office) (message : Message)
       → changeBy c (lentBook (l .scalars) (l .leaders) (searchedBlocks l) (l .messages)) (Step.Vote office message)
-      ≡ changeBy c (given l offices) (Step.Vote office message)
-  unfolding changeBy ruleOf entriesOf vote longest chainNotarised notarised signed stage chain sentStage
+      ≡ changeBy c (given l rest) (Step.Vote office message)
+  unfolding changeBy ruleOf entriesOf longest chainNotarised notarised signed stage chain sentStage
   lent-vote office message = refl
 
   pub lent-register : (office : Office) (message : Message)
       → changeBy c (lentBook (l .scalars) [] noBlocks (l .messages)) (Step.Register office message)
-      ≡ changeBy c (given l offices) (Step.Register office message)
-  unfolding changeBy ruleOf entriesOf register signed stage
+      ≡ changeBy c (given l rest) (Step.Register office message)
+  unfolding changeBy ruleOf entriesOf signed stage
   lent-register office message = refl
 
   pub lent-finalise : (office : Office) (newest : Block)
       → changeBy c (lentBook (l .scalars) [] (searchedBlocks l) (searchedMessages l)) (Step.Finalise office newest)
-      ≡ changeBy c (given l offices) (Step.Finalise office newest)
-  unfolding changeBy ruleOf entriesOf finalise finalises chainNotarised notarised signed stage chain
+      ≡ changeBy c (given l rest) (Step.Finalise office newest)
+  unfolding changeBy ruleOf entriesOf finalises chainNotarised notarised signed stage chain
   lent-finalise office newest = refl
 
   pub lent-deliver : (message : Message) (office : Office)
       → changeBy c (lentBook (l .scalars) [] noBlocks (messages [] [] [] (l .messages .places))) (Step.Deliver message office)
-      ≡ changeBy c (given l offices) (Step.Deliver message office)
-  unfolding changeBy ruleOf entriesOf deliver stage
+      ≡ changeBy c (given l rest) (Step.Deliver message office)
+  unfolding changeBy ruleOf entriesOf stage
   lent-deliver message office = refl
 
   pub lent-bad-send : (sender : Office) (kind : Kind) (signer : Office) (about : Block)
       → changeBy c
       (lentBook (l .scalars) [] noBlocks (messages (l .messages .votes) (l .messages .signers) (l .messages .about) []))
       (Step.BadSend sender kind signer about)
-      ≡ changeBy c (given l offices) (Step.BadSend sender kind signer about)
-  unfolding changeBy ruleOf entriesOf badSend sentStage
+      ≡ changeBy c (given l rest) (Step.BadSend sender kind signer about)
+  unfolding changeBy ruleOf entriesOf sentStage
   lent-bad-send sender kind signer about = refl
 
   pub lent-draft : (parent : Block) (epoch : Epoch) (w : ℕ)
       → changeBy c (lentBook (l .scalars) [] (l .blocks) noMessages) (Step.Draft parent epoch w)
-      ≡ changeBy c (given l offices) (Step.Draft parent epoch w)
-  unfolding changeBy ruleOf entriesOf draft
+      ≡ changeBy c (given l rest) (Step.Draft parent epoch w)
+  unfolding changeBy ruleOf entriesOf
   lent-draft parent epoch w = refl
 
-  pub lent-advance : changeBy c (lentBook (l .scalars) [] noBlocks noMessages) Step.Advance ≡ changeBy c (given l offices) Step.Advance
-  unfolding changeBy ruleOf entriesOf advance
+  pub lent-advance : changeBy c (lentBook (l .scalars) [] noBlocks noMessages) Step.Advance ≡ changeBy c (given l rest) Step.Advance
+  unfolding changeBy ruleOf entriesOf
   lent-advance = refl
 
 module _ (l : Lent) (at : ℕ) (state : OfficeState) (same x : Change)
@@ -92,11 +92,11 @@ module _ (l : Lent) (at : ℕ) (state : OfficeState) (same x : Change)
   -- a book that is not fit refuses the step with 5
   pub promised-unfit : not fits ≡ true → x ≡ refusing same 5 → ChangeFor fits (given l) at state step x
   unfolding changeOf choose unchangedOf
-  promised-unfit unfit is offices holds = rw (not-true fits unfit, holds) (is ∙ ap (λ (y : Change). refusing y 5) unchanged)
+  promised-unfit unfit is rest holds = rw (not-true fits unfit, holds) (is ∙ ap (λ (y : Change). refusing y 5) unchanged)
 
   -- a fit book: a step's change by the whole book is the one that is promised
   pub promised : not fits ≡ false → (kind : Step) → step ≡ kind
-      → ((offices : List OfficeState) → x ≡ changeBy same (given l offices) kind) → ChangeFor fits (given l) at state step x
+      → ((rest : Book) → x ≡ changeBy same (given l rest) kind) → ChangeFor fits (given l) at state step x
   unfolding changeOf choose unchangedOf
-  promised fit kind named is offices holds =
-      rw (not-false fits fit, named, holds) (is offices ∙ ap (λ (y : Change). changeBy y (given l offices) kind) unchanged)
+  promised fit kind named is rest holds =
+      rw (not-false fits fit, named, holds) (is rest ∙ ap (λ (y : Change). changeBy y (given l rest) kind) unchanged)

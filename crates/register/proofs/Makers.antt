@@ -12,7 +12,7 @@ use Rattle.register.specs.Books.{bookOf}
 use Rattle.register.specs.Fitness.{countsFit, fit}
 use Rattle.register.specs.Opening.{blank, closed, opening}
 use Rattle.register.specs.Effects.{withBlock, withSent, withMoved, withActed, withState, withNextEpoch}
-use Rattle.register.specs.Steps.{propose, vote, register, finalise, deliver, badSend, draft, advance}
+use Rattle.register.specs.Steps.{register}
 use Rattle.register.specs.Steps.{refusal, judged, ruleOf, bookRule, stepRule}
 use Rattle.register.specs.Runs.{afterSteps, opened, moment}
 use Rattle.register.specs.Promises.{RunsAreFit, RefusedOpeningCloses, ClosedGetsFive, RefusedStepStays}
@@ -75,14 +75,14 @@ closed-gets-five step =
 -- no step's effect changes the council
 council-stays : (r : Book) (step : Step) → councilOf (ruleOf r step .effect) ≡ councilOf r
 unfolding councilOf ruleOf withActed withSent withMoved withState withBlock withNextEpoch
-council-stays r (Step.Propose office parent w) = unfold propose in named-keeps r _ councilOf refl
-council-stays r (Step.Vote office message) = unfold vote in refl
-council-stays r (Step.Register office message) = unfold register in refl
-council-stays r (Step.Finalise office newest) = unfold finalise in refl
-council-stays r (Step.Deliver message office) = unfold deliver in refl
-council-stays r (Step.BadSend sender kind signer about) = unfold badSend in refl
-council-stays r (Step.Draft parent epoch w) = unfold draft in named-keeps r _ councilOf refl
-council-stays r Step.Advance = unfold advance in refl
+council-stays r (Step.Propose office parent w) = named-keeps r _ councilOf refl
+council-stays r (Step.Vote office message) = refl
+council-stays r (Step.Register office message) = refl
+council-stays r (Step.Finalise office newest) = refl
+council-stays r (Step.Deliver message office) = refl
+council-stays r (Step.BadSend sender kind signer about) = refl
+council-stays r (Step.Draft parent epoch w) = named-keeps r _ councilOf refl
+council-stays r Step.Advance = refl
 
 -- no step changes the number of offices, who is trusted, or the schedule
 pub steps-keep-council : StepsKeepCouncil

@@ -15,10 +15,14 @@ use Rattle.register.specs.Fitness.{countsFit, blockFits, messageFits, st
 use Rattle.register.specs.Promises.{Sizes}
 use Rattle.register.specs.Lent.{Counted}
 
+-- the ranges of what no step changes: the same type before and after a step
+abbrev Fixed : Book → Type 0
+Fixed r = (i : ℕ) → i < r .scheduled → getD (r .leaders) i 0 < r .n
+
 -- every number of the book is in its range, and the tables have their sizes
 pub record Ranges (r : Book) : Type 0 where
   pub counts : Counted (scalarsOf r)
-  pub leaders : (i : ℕ) → i < r .scheduled → getD (r .leaders) i 0 < r .n
+  pub fixed : Fixed r
   pub blocks : (k : ℕ) → k < r .last .0 → (getD (r .parents) (k + 1) 0 < k + 1) × (getD (r .epochs) (k + 1) 0 ≤ 511)
   pub messages : (m : ℕ) → m < r .count
       → (getD (r .signers) m 0 < r .n) × ((1 ≤ getD (r .about) m 0) × (getD (r .about) m 0 ≤ r .last .0))
@@ -76,7 +80,7 @@ module _ {r : Book} where
       let all = holds _ h in
       record {
         counts = counted _ (all .0);
-        leaders = λ i l. ltb-true _ _ (all-at _ _ i (all .1 .0) l);
+        fixed = λ i l. ltb-true _ _ (all-at _ _ i (all .1 .0) l);
         blocks = λ k l.
             let fits = all-at _ _ k (all .1 .1 .0) l in
             (ltb-true _ _ (both-left _ _ fits), leb-true _ _ (both-right _ _ fits));
@@ -92,7 +96,7 @@ module _ {r : Book} where
   unfolding fit countsFit blockFits messageFits stateFits
   ranges-fit z =
       let c = z .counts in
-      let leaders = all-make _ _ (λ i l. lt-ltb _ _ (z .leaders i l)) in
+      let leaders = all-make _ _ (λ i l. lt-ltb _ _ (z .fixed i l)) in
       let blocks = all-make _ _ (λ k l. both-make _ _ (lt-ltb _ _ (z .blocks k l .0)) (le-leb _ _ (z .blocks k l .1))) in
       let messages = all-make _ _ (λ m l. both-make _ _ (lt-ltb _ _ (z .messages m l .0)) (between-make _ _ _ (z .messages m l .1))) in
       let offices = all-make _ _ (λ q l. implies _ _ (λ t. le-leb _ _ (z .finals q l t))) in

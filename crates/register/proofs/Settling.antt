@@ -18,7 +18,7 @@ use Rattle.register.specs.Books.{block}
 use Rattle.register.specs.Tables.{stateOf, parentOf, finalOf}
 use Rattle.register.specs.Chains.{chainNotarised}
 use Rattle.register.specs.Effects.{withBlock, withSent, withMoved, withActed, withState, withNextEpoch}
-use Rattle.register.specs.Steps.{propose, vote, register, finalise, deliver, badSend, draft, advance, refusal, judged, ruleOf}
+use Rattle.register.specs.Steps.{refusal, judged, ruleOf}
 use Rattle.register.specs.Settled.{Settled, AllSettled, Base, settledBase, actorOf}
 use Rattle.register.proofs.Chains.{parent-le, genesis-notarised, notarised-parent}
 use Rattle.register.proofs.Naming.{named-keeps}
@@ -30,18 +30,6 @@ use Rattle.register.proofs.Growing.{grows-state, grows-step}
 -- the final blocks of nobody are settled
 pub none-settled : (r : Book) → AllSettled r 0
 none-settled r q l h = absurd (omega (arith, digit-zero 2 q, eqb-true (digit 2 0 q) 1 h))
-
--- a step leaves the state of every office but its actor
-others-stay : (r : Book) (step : Step) (q : ℕ) → (q ≡ actorOf step .0 → ⊥) → stateOf (ruleOf r step .effect) q ≡ stateOf r q
-unfolding ruleOf actorOf withActed withSent withMoved withState withBlock withNextEpoch
-others-stay r (Step.Propose office parent w) q other = unfold propose in named-keeps r _ (λ (x : Book). stateOf x q) refl
-others-stay r (Step.Vote office message) q other = unfold vote in refl
-others-stay r (Step.Register office message) q other = unfold register in refl
-others-stay r (Step.Finalise office newest) q other = unfold finalise in getD-set-other (r .offices) (office .0) q _ _ other
-others-stay r (Step.Deliver message office) q other = unfold deliver in refl
-others-stay r (Step.BadSend sender kind signer about) q other = unfold badSend in refl
-others-stay r (Step.Draft parent epoch w) q other = unfold draft in named-keeps r _ (λ (x : Book). stateOf x q) refl
-others-stay r Step.Advance q other = unfold advance in refl
 
 -- where the book grows and an office keeps its state, its final block stays settled
 settled-kept : {r s : Book} (q : ℕ) → Grows r s → stateOf s q ≡ stateOf r q → Settled r q → Settled s q
@@ -79,19 +67,27 @@ settled-new r q c state is low n = by (decLt q (length (r .offices)))
         (List·getD-eq-default (set (r .offices) q state) _ (omega (arith, length-set (r .offices) q state))) (omega arith)
         (genesis-notarised r q)
 
--- an accepted step settles the final block of its actor
-settled-actor : (r : Book) (step : Step) → Accepted r step → actorOf step .0 < 32 → Settled (ruleOf r step .effect) (actorOf step .0)
-unfolding actorOf ruleOf finalise
-settled-actor r (Step.Propose office parent w) a l = absurd (omega arith)
-settled-actor r (Step.Vote office message) a l = absurd (omega arith)
-settled-actor r (Step.Register office message) a l = absurd (omega arith)
-settled-actor r (Step.Finalise office newest) a l =
-    settled-new r (office .0) (parentOf r (newest .0)) _ refl (omega (arith, parent-le r (newest .0), a .block))
-    (notarised-parent r (office .0) (newest .0) (a .three .newest) (a .three .chain))
-settled-actor r (Step.Deliver message office) a l = absurd (omega arith)
-settled-actor r (Step.BadSend sender kind signer about) a l = absurd (omega arith)
-settled-actor r (Step.Draft parent epoch w) a l = absurd (omega arith)
-settled-actor r Step.Advance a l = absurd (omega arith)
+-- an accepted step leaves the state of every office but its actor, whose final block it settles
+abbrev States : (r : Book) (step : Step) → Type 0
+States r step =
+    ((q : ℕ) → (q ≡ actorOf step .0 → ⊥) → stateOf (ruleOf r step .effect) q ≡ stateOf r q)
+    × (actorOf step .0 < 32 → Settled (ruleOf r step .effect) (actorOf step .0))
+
+states : (r : Book) (step : Step) → Accepted r step → States r step
+unfolding ruleOf actorOf withActed withSent withMoved withState withBlock withNextEpoch
+states r (Step.Propose office parent w) a = (λ q other. named-keeps r _ (λ (x : Book). stateOf x q) refl, λ l. absurd (omega arith))
+states r (Step.Vote office message) a = (λ q other. refl, λ l. absurd (omega arith))
+states r (Step.Register office message) a = (λ q other. refl, λ l. absurd (omega arith))
+states r (Step.Finalise office newest) a = (
+  λ q other. getD-set-other (r .offices) (office .0) q _ _ other,
+  λ l.
+      settled-new r (office .0) (parentOf r (newest .0)) _ refl (omega (arith, parent-le r (newest .0), a .block))
+      (notarised-parent r (office .0) (newest .0) (a .three .newest) (a .three .chain)),
+)
+states r (Step.Deliver message office) a = (λ q other. refl, λ l. absurd (omega arith))
+states r (Step.BadSend sender kind signer about) a = (λ q other. refl, λ l. absurd (omega arith))
+states r (Step.Draft parent epoch w) a = (λ q other. named-keeps r _ (λ (x : Book). stateOf x q) refl, λ l. absurd (omega arith))
+states r Step.Advance a = (λ q other. refl, λ l. absurd (omega arith))
 
 module _ (r : Book) (fits : Bool) (few : fits ≡ true → r .n ≤ 32) (step : Step) where
   -- a final block that is settled is so after any step, accepted or refused
@@ -100,15 +96,15 @@ module _ (r : Book) (fits : Bool) (few : fits ≡ true → r .n ≤ 32) (step : 
       judged-has (λ s. Settled s q) r fits step t
       (λ fit a.
       elim (ℕ-discrete q (actorOf step .0)) as (λ _. Settled (ruleOf r step .effect) q) [
-        | yes e ↦ subst⁻¹ (Settled (ruleOf r step .effect)) e (settled-actor r step a (omega arith))
-        | no d ↦ settled-kept q (grows-step r step (few fit) a) (others-stay r step q d) t
+        | yes e ↦ subst⁻¹ (Settled (ruleOf r step .effect)) e (states r step a .1 (omega arith))
+        | no d ↦ settled-kept q (grows-step r step (few fit) a) (states r step a .0 q d) t
       ])
 
   -- that of an accepted step's actor is so after it
   actor-settled : eqb (refusal fits (ruleOf r step)) 0 ≡ true → actorOf step .0 < 32
       → Settled (judged fits r (ruleOf r step) .book) (actorOf step .0)
   unfolding judged choose
-  actor-settled e l = rw e (settled-actor r step (accepted r step (passed fits (ruleOf r step) (eqb-true _ 0 e) .1)) l)
+  actor-settled e l = rw e (states r step (accepted r step (passed fits (ruleOf r step) (eqb-true _ 0 e) .1)) .1 l)
 
   -- and so are those of a set, with the actor where the step is accepted
   pub settled-next : (set : ℕ) (accept : Bool) → eqb (refusal fits (ruleOf r step)) 0 ≡ accept → AllSettled r set

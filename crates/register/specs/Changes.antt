@@ -11,7 +11,7 @@ use Rattle.words.specs.Refusals.{first}
 use Rattle.tables.specs.Messages.{inbox, view}
 use Rattle.register.specs.Types.{Office, Block, Step, Header, OfficeState, Book, Clock, BlockEntry, MessageEntry, PlaceEntry, OfficeEntry, Answer, Change}
 use Rattle.register.specs.Books.{office, epoch, block}
-use Rattle.register.specs.Tables.{stateIn, stateOf, headerOf, parentOf, named, isVote, aboutOf}
+use Rattle.register.specs.Tables.{stateOf, headerOf, parentOf, named, isVote, aboutOf}
 use Rattle.register.specs.Effects.{sentPlace, finalising}
 use Rattle.register.specs.Steps.{ruleOf}
 
@@ -115,6 +115,6 @@ changeOf fits r at step =
     choose fits (changeBy (unchangedOf r at (stateOf r at)) r step) (refusing (unchangedOf r at (stateOf r at)) 5)
 
 -- the same of every book in which the office at that place holds that state
-abbrev pub ChangeFor : (fits : Bool) → (given : List OfficeState → Book) → (at : ℕ) → OfficeState → Step → Change → Type 0
+abbrev pub ChangeFor : (fits : Bool) → (given : Book → Book) → (at : ℕ) → OfficeState → Step → Change → Type 0
 ChangeFor fits given at state step c =
-    (offices : List OfficeState) → stateIn offices at ≡ state → c ≡ changeOf fits (given offices) at step
+    (rest : Book) → stateOf rest at ≡ state → c ≡ changeOf fits (given rest) at step

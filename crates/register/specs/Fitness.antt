@@ -1,7 +1,7 @@
 -- When a register is fit: every number in it is in its range. It says nothing of equal blocks, of marks or of places.
 use Prim.Native.Nat.{ℕ, _+_}
 use mathlib.Core.Bool.{Bool, not}
-use mathlib.Core.List.{[], _∷_}
+use mathlib.Core.List.{List, [], _∷_}
 use lib.Dec.{ltb, leb}
 use lib.ListN.{getD}
 use Rattle.words.specs.Tests.{both, either, conj, all, between}
@@ -49,12 +49,9 @@ stateFits last state = leb (state .finalised .0) last
 abbrev pub officesFit : Book → Bool
 officesFit r = all (r .n) (λ q. either (not (trusted r q)) (stateFits (r .last .0) (stateOf r q)))
 
+-- the tests of the tables
+abbrev pub tablesFit : Book → List Bool
+tablesFit r = leadersFit r ∷ blocksFit r ∷ messagesFit r ∷ officesFit r ∷ []
+
 unfoldable pub fit : Book → Bool
-fit r =
-    conj
-    (countsFit (scalarsOf r)
-    ∷ leadersFit r
-    ∷ blocksFit r
-    ∷ messagesFit r
-    ∷ officesFit r
-    ∷ [])
+fit r = conj (countsFit (scalarsOf r) ∷ tablesFit r)

@@ -3,8 +3,9 @@
 use Prim.Native.Nat.{ℕ, _≤_}
 use mathlib.Core.Bool.{Bool}
 use mathlib.Core.List.{List, []}
-use Rattle.register.specs.Types.{OfficeState, Book, Scalars}
+use Rattle.register.specs.Types.{Book, Scalars}
 use Rattle.register.specs.Limits.{mostOffices, mostEpochs, mostBlocks, mostMessages}
+use Rattle.register.specs.Opening.{blank}
 
 -- columns of blocks and of messages
 pub record BlockColumns : Type 0 where
@@ -30,9 +31,9 @@ messages votes signers about places = record { votes = votes; signers = signers;
 abbrev pub noMessages : MessageColumns
 noMessages = messages [] [] [] []
 
--- the book of those single numbers and columns, in which the offices hold that
-abbrev pub wholeBook : Scalars → (leaders : List ℕ) → BlockColumns → MessageColumns → List OfficeState → Book
-wholeBook s leaders blocks messages offices =
+-- the book of those single numbers and columns, whose other columns are those of that book
+abbrev pub wholeBook : Scalars → (leaders : List ℕ) → BlockColumns → MessageColumns → Book → Book
+wholeBook s leaders blocks messages rest =
     record {
       n = s .n;
       trust = s .trust;
@@ -49,18 +50,22 @@ wholeBook s leaders blocks messages offices =
       about = messages .about;
       places = messages .places;
       acted = s .acted;
-      offices = offices;
+      offices = rest .offices;
     }
+
+-- a book of nothing
+abbrev pub nothing : Book
+nothing = blank 0 0 0 0 []
 
 -- the book as far as it is lent
 abbrev pub lentBook : Scalars → (leaders : List ℕ) → BlockColumns → MessageColumns → Book
-lentBook s leaders blocks messages = wholeBook s leaders blocks messages []
+lentBook s leaders blocks messages = wholeBook s leaders blocks messages nothing
 
 -- a book by its own columns, with single numbers as they were read
 abbrev pub readBook : Scalars → Book → Book
 readBook s r =
     wholeBook s (r .leaders) (blocks (r .parents) (r .epochs) (r .payloads)) (messages (r .votes) (r .signers) (r .about) (r .places))
-    (r .offices)
+    r
 
 -- single numbers that are in their ranges
 pub record Counted (s : Scalars) : Type 0 where

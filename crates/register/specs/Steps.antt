@@ -40,7 +40,7 @@ pub record Rule : Type 0 where
   pub value : ℕ
 
 -- Propose: the block of the current epoch is named; its proposal is sent, is in the office's view, and the office has acted.
-unfoldable pub propose : Book → Office → Block → (payload : ℕ) → Rule
+abbrev pub propose : Book → Office → Block → (payload : ℕ) → Rule
 propose r office parent w =
     let q : ℕ = office .0 in
     let p : ℕ = parent .0 in
@@ -65,7 +65,7 @@ propose r office parent w =
     }
 
 -- Vote: the proposal moves from inbox to view; a vote for its block is sent and is in the view; the office has acted.
-unfoldable pub vote : Book → Office → Message → Rule
+abbrev pub vote : Book → Office → Message → Rule
 vote r office message =
     let q : ℕ = office .0 in
     let m : ℕ = message .0 in
@@ -93,7 +93,7 @@ vote r office message =
     }
 
 -- Register: a vote moves from inbox to view.
-unfoldable pub register : Book → Office → Message → Rule
+abbrev pub register : Book → Office → Message → Rule
 register r office message =
     let q : ℕ = office .0 in
     let m : ℕ = message .0 in
@@ -111,7 +111,7 @@ register r office message =
     }
 
 -- Finalise: the final block becomes the parent of a block that meets the condition.
-unfoldable pub finalise : Book → Office → Block → Rule
+abbrev pub finalise : Book → Office → Block → Rule
 finalise r office newest =
     let q : ℕ = office .0 in
     let b : ℕ = newest .0 in
@@ -122,7 +122,7 @@ finalise r office newest =
     }
 
 -- Deliver: a message moves from transit to the inbox.
-unfoldable pub deliver : Book → Message → Office → Rule
+abbrev pub deliver : Book → Message → Office → Rule
 deliver r message office =
     let q : ℕ = office .0 in
     let m : ℕ = message .0 in
@@ -134,7 +134,7 @@ deliver r message office =
 
 -- Bad send: an untrusted office sends what it likes, but for the signatures of trusted offices that they never sent. Block 0 is
 -- refused with 7.
-unfoldable pub badSend : Book → Office → Kind → Office → Block → Rule
+abbrev pub badSend : Book → Office → Kind → Office → Block → Rule
 badSend r sender kind signer about =
     let b : ℕ = about .0 in
     record {
@@ -150,7 +150,7 @@ badSend r sender kind signer about =
     }
 
 -- Draft: names a block, sends nothing.
-unfoldable pub draft : Book → Block → Epoch → (payload : ℕ) → Rule
+abbrev pub draft : Book → Block → Epoch → (payload : ℕ) → Rule
 draft r parent epoch w =
     let new : Header = record { parent = parent; epoch = epoch; payload = w } in
     record {
@@ -160,7 +160,7 @@ draft r parent epoch w =
     }
 
 -- Advance: next epoch, every trusted office ready.
-unfoldable pub advance : Book → Rule
+abbrev pub advance : Book → Rule
 advance r = record { tests = (spent r ⇒ 24) ∷ []; effect = withNextEpoch r; value = r .epoch .0 + 1 }
 
 -- the rule of a step

@@ -5,12 +5,13 @@ ghost use Prim.Native.Nat.{_+_, _≤_};
 ghost use lib.Dec.{ltb};
 ghost use lib.ListN.{getD};
 ghost use Rattle.words.specs.Lent.{lent};
-ghost use Rattle.words.specs.Tests.{either, all};
+ghost use Rattle.words.specs.Tests.{either, conj, all};
 ghost use Rattle.tables.specs.Blocks.{trustedIn};
 ghost use Rattle.register.specs.Limits.{mostOffices, mostEpochs, mostMessages};
-ghost use Rattle.register.specs.Books.{bookOf};
+ghost use Rattle.register.specs.Books.{bookOf, scalarsOf};
 ghost use Rattle.register.specs.Tables.{stateIn};
-ghost use Rattle.register.specs.Fitness.{countsFit, blockFits, messageFits, stateFits, fit};
+ghost use Rattle.register.specs.Fitness.{countsFit, blockFits, messageFits, stateFits, tablesFit, fit};
+ghost use Rattle.register.specs.Lent.{Counted};
 use crate::book::Book;
 use crate::book::Scalars;
 use crate::columns::About;
@@ -119,21 +120,29 @@ fn offices_fit(offices: [OfficeState; OFFICES], n: u8, trust: u32, last: u8) -> 
 }
 
 impl Book {
-    // Every number of the book is in its range; payloads, places and kinds of messages are no matter. The counts come first, so that no table is
-    // read past its end.
-    pub(crate) fn is_fit(self) -> bool
-        ensures { λ r. ⌜ r ≡ fit self ⌝ }
+    // Every number in the tables of a book is in its range, where its single numbers are.
+    fn tables_fit(self) -> bool
+        requires { ⌜ Counted (scalarsOf self) ⌝ }
+        ensures { λ r. ⌜ r ≡ conj (tablesFit self) ⌝ }
     {
         let n = self.n;
         let last = self.last.0;
-        if !counts_fit(self.scalars()) {
-            return false;
-        }
         let offices = self.offices;
         leaders_fit(&self.leaders, self.scheduled as usize, n)
             & blocks_fit(&self.parents, &self.epochs, last)
             & messages_fit(&self.signers, &self.about, self.count as usize, n, last)
             & offices_fit(offices, n, self.trust, last)
+    }
+
+    // Every number of the book is in its range; payloads, places and kinds of messages are no matter. The counts come first, so that no table is
+    // read past its end.
+    pub(crate) fn is_fit(self) -> bool
+        ensures { λ r. ⌜ r ≡ fit self ⌝ }
+    {
+        if !counts_fit(self.scalars()) {
+            return false;
+        }
+        self.tables_fit()
     }
 }
 

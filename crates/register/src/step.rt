@@ -4,7 +4,7 @@ use crate::sorts::Kind;
 use crate::sorts::Message;
 use crate::sorts::Office;
 
-// One of the eight steps, with its fields in the order of the packed log.
+// A step, with its fields in the order of the packed log.
 pub enum Step {
     // office, parent, payload
     Propose(Office, Block, u16),

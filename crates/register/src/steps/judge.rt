@@ -1,4 +1,4 @@
-// Any of the eight steps, as the change that it makes.
+// Any step, as the change that it makes.
 ghost use mathlib.Core.Path.{_≡_};
 ghost use mathlib.Core.Bool.{true};
 ghost use mathlib.Core.List.{[]};

@@ -1,7 +1,8 @@
 -- `actor_of`: only a finalise step changes what an office holds.
 use borrow.Author.Needs.{needs}
 use mathlib.Core.Path.{_≡_, refl}
-use mathlib.Core.List.{[], _∷_}
+use Prim.Native.Nat.{ℕ}
+use mathlib.Core.List.{List, [], _∷_}
 use denote.Enum.Declared.{tagOf}
 use types.Run.{OneOf, miss}
 use Rattle.register.specs.Types.{Step}
@@ -11,13 +12,17 @@ use Rattle.register.proofs.step.Step.{the-type}
 use Rattle.register.proofs.actor.actor_of.Statement.{statement}
 use Rattle.register.proofs.actor.actor_of.Tie as tie
 
--- a step of any other kind; 3 is the key of finalise
-others : (step : Step) → OneOf (0 ∷ 1 ∷ 2 ∷ 4 ∷ 5 ∷ 6 ∷ 7 ∷ []) (tagOf the-type step) → office 32 ≡ actorOf step
+-- the keys of all kinds but finalise, which has 3
+abbrev keys : List ℕ
+keys = 0 ∷ 1 ∷ 2 ∷ 4 ∷ 5 ∷ 6 ∷ 7 ∷ []
+
+-- a step of any other kind
+others : (step : Step) → OneOf keys (tagOf the-type step) → office 32 ≡ actorOf step
 unfolding actorOf
 others (Step.Propose office parent payload) key = refl
 others (Step.Vote office message) key = refl
 others (Step.Register office message) key = refl
-others (Step.Finalise office newest) key = absurd (miss (0 ∷ 1 ∷ 2 ∷ 4 ∷ 5 ∷ 6 ∷ 7 ∷ []) 3 tt key)
+others (Step.Finalise office newest) key = absurd (miss keys 3 tt key)
 others (Step.Deliver message office) key = refl
 others (Step.BadSend sender kind signer about) key = refl
 others (Step.Draft parent epoch payload) key = refl

@@ -84,7 +84,7 @@ carried c =
     let start = judged-turn c in
     let state = refl {a = actor (at .before) .state} in
     carries-read (book start) (actor (at .before) .at) (a .within) (start .before .before .args .fits) (step start) (c .judge .result)
-    (at .scalars .result) (at .scalars .ensures) (c .judge .ensures (book start .offices) state) (held-counts (start .before .loop .inv .1))
+    (at .scalars .result) (at .scalars .ensures) (c .judge .ensures (book start) state) (held-counts (start .before .loop .inv .1))
     (a .own)
 
 loop-again : tie.Need-loop-again Inv-loop μ-loop

@@ -3,14 +3,14 @@ use borrow.Author.Needs.{needs}
 use mathlib.Core.Path.{refl, _∙_}
 use native.Mathlib.Omega.{arith}
 use Rattle.words.proofs.Turns.{turns}
-use Rattle.register.specs.Steps.{advance, ruleOf}
+use Rattle.register.specs.Steps.{ruleOf}
 use Rattle.register.specs.Changes.{entriesOf}
 use Rattle.register.proofs.Answering.{refuses, accepts}
 use Rattle.register.proofs.steps.advance.advance.Statement.{statement}
 use Rattle.register.proofs.steps.advance.advance.Tie as tie
 
 pub advance-spec : {M : Type 1} → statement M
-unfolding ruleOf entriesOf advance
+unfolding ruleOf entriesOf
 advance-spec =
     tie.close (tie.spec
     (λ c κs. search needs)

@@ -2,14 +2,14 @@
 use borrow.Author.Needs.{needs}
 use mathlib.Core.Path.{_∙_}
 use Rattle.register.specs.Effects.{sentStage}
-use Rattle.register.specs.Steps.{badSend, ruleOf}
+use Rattle.register.specs.Steps.{ruleOf}
 use Rattle.register.specs.Changes.{entriesOf}
 use Rattle.register.proofs.Answering.{refuses, accepts}
 use Rattle.register.proofs.steps.bad_send.bad_send.Statement.{statement}
 use Rattle.register.proofs.steps.bad_send.bad_send.Tie as tie
 
 pub bad-send-spec : {M : Type 1} → statement M
-unfolding ruleOf entriesOf badSend sentStage
+unfolding ruleOf entriesOf sentStage
 bad-send-spec =
     tie.close (tie.spec
     (λ c κs. search needs) (λ c κs. search needs)

@@ -1,12 +1,10 @@
 -- `deliver_refusal` makes the three tests in their order.
 use borrow.Author.Needs.{needs}
 use Rattle.words.proofs.Turns.{turns}
-use Rattle.register.specs.Steps.{deliver}
 use Rattle.register.proofs.steps.deliver.deliver_refusal.Statement.{statement}
 use Rattle.register.proofs.steps.deliver.deliver_refusal.Tie as tie
 
 pub deliver-refusal-spec : {M : Type 1} → statement M
-unfolding deliver
 deliver-refusal-spec =
     tie.close (tie.spec
     (λ c. search turns depth 6)

@@ -2,14 +2,14 @@
 use borrow.Author.Needs.{needs}
 use mathlib.Core.Path.{refl, _∙_}
 use native.Mathlib.Omega.{arith}
-use Rattle.register.specs.Steps.{draft, ruleOf}
+use Rattle.register.specs.Steps.{ruleOf}
 use Rattle.register.specs.Changes.{entriesOf}
 use Rattle.register.proofs.Answering.{answers, refuses, accepts}
 use Rattle.register.proofs.steps.draft.draft.Statement.{statement}
 use Rattle.register.proofs.steps.draft.draft.Tie as tie
 
 pub draft-spec : {M : Type 1} → statement M
-unfolding ruleOf entriesOf draft
+unfolding ruleOf entriesOf
 draft-spec =
     tie.close (tie.spec
     (λ c κs. search needs)

@@ -1,14 +1,14 @@
 -- `finalise` refuses what its tests refuse, and else the office holds the parent.
 use borrow.Author.Needs.{needs}
 use mathlib.Core.Path.{_∙_}
-use Rattle.register.specs.Steps.{finalise, ruleOf}
+use Rattle.register.specs.Steps.{ruleOf}
 use Rattle.register.specs.Changes.{entriesOf}
 use Rattle.register.proofs.Answering.{refuses, accepts}
 use Rattle.register.proofs.steps.finalise.finalise.Statement.{statement}
 use Rattle.register.proofs.steps.finalise.finalise.Tie as tie
 
 pub finalise-spec : {M : Type 1} → statement M
-unfolding ruleOf entriesOf finalise
+unfolding ruleOf entriesOf
 finalise-spec =
     tie.close (tie.spec
     (λ c κs. search needs) (λ c κs. search needs)

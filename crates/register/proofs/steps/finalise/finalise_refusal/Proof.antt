@@ -1,12 +1,10 @@
 -- `finalise_refusal` makes the four tests in their order.
 use borrow.Author.Needs.{needs}
 use Rattle.words.proofs.Turns.{turns, answered-not}
-use Rattle.register.specs.Steps.{finalise}
 use Rattle.register.proofs.steps.finalise.finalise_refusal.Statement.{statement}
 use Rattle.register.proofs.steps.finalise.finalise_refusal.Tie as tie
 
 pub finalise-refusal-spec : {M : Type 1} → statement M
-unfolding finalise
 finalise-refusal-spec =
     tie.close (tie.spec
     (λ c. search turns depth 7)

@@ -3,8 +3,8 @@ use borrow.Author.Needs.{needs}
 use mathlib.Core.Path.{_≡_, _∙_, subst}
 use mathlib.Core.List.{List, []}
 use borrow.Author.Tests.{not-false}
-use Rattle.register.specs.Types.{Step, OfficeState, Change}
-use Rattle.register.specs.Lent.{Counted, blocks, messages}
+use Rattle.register.specs.Types.{Step, Book, Change}
+use Rattle.register.specs.Lent.{Counted, blocks, messages, nothing}
 use Rattle.register.specs.Changes.{changeBy, ChangeFor}
 use Rattle.register.specs.Settled.{Base, actorOf}
 use Rattle.register.proofs.Lending.{Lent, given, base-lent, promised, promised-unfit, lent-propose, lent-vote, lent-register, lent-finalise, lent-deliver, lent-bad-send, lent-draft, lent-advance}
@@ -28,7 +28,7 @@ counted c = c .before .before .pre .0 (not-false _ (c .if1 .left))
 
 -- and a step's change by the whole book is the one that is promised
 arm : (c : tie.Else1) (kind : Step) (x : Change) → c .before .before .args .step ≡ kind
-    → ((offices : List OfficeState) → x ≡ changeBy (c .before .unchanged .result) (given (lent (c .before .before)) offices) kind)
+    → ((rest : Book) → x ≡ changeBy (c .before .unchanged .result) (given (lent (c .before .before)) rest) kind)
     → (let a = c .before .before .args in ChangeFor (a .fits) (given (lent (c .before .before))) (a .actor .at) (a .actor .state) (a .step) x)
 arm c kind x named = promised _ _ _ _ x (c .before .unchanged .ensures) _ _ (c .if1 .left) kind named
 
@@ -37,8 +37,8 @@ unfolding actorOf
 finalise-requires c κs =
     let at = c .before .before .before .before in
     let s = at .before .before in
-    let own : (x : Step) → s .args .step ≡ x → Base (given (lent s) []) (actorOf x .0) (s .args .actor .base .0) =
-    λ x e. subst (λ (y : Step). Base (given (lent s) []) (actorOf y .0) (s .args .actor .base .0)) e (s .pre .1) in
+    let own : (x : Step) → s .args .step ≡ x → Base (given (lent s) nothing) (actorOf x .0) (s .args .actor .base .0) =
+    λ x e. subst (λ (y : Step). Base (given (lent s) nothing) (actorOf y .0) (s .args .actor .base .0)) e (s .pre .1) in
     (counted at, base-lent (lent s) _ _ (own _ (c .before .before .step4 .given .1)))
 
 pub judge-spec : {M : Type 1} → statement M

@@ -26,21 +26,21 @@ tests s =
 
 -- those up to 20, as they were found
 found : (c : tie.After-parent-refusal) → c .parent-refusal .result ≡ first (until 25 (tests (c .before)))
-unfolding propose until choose
+unfolding until choose
 found c = rw longest-searched (rw longest-searched at (c .parent-refusal .ensures))
 
 -- past them those that are left decide
 past : (c : tie.Else1) (x : ℕ) → x ≡ first (since 25 (tests (c .before .before))) → x ≡ first (tests (c .before .before))
-unfolding propose positive both
+unfolding positive both
 past c x rest = late 25 _ _ x refl (found (c .before)) (c .if1 .left) rest
 
 -- none of them holds
 none : (c : tie.Else3) → 0 ≡ first (tests (c .before .before .before .before .before .before .before))
-unfolding propose since choose
+unfolding since choose
 none c = past (c .before .before .before .before .before) 0 (search answers depth 4)
 
 pub propose-spec : {M : Type 1} → statement M
-unfolding ruleOf entriesOf propose since choose sentStage
+unfolding ruleOf entriesOf since choose sentStage
 propose-spec =
     tie.close (tie.spec
     (λ c κs. search needs) (λ c κs. search needs)

@@ -5,7 +5,7 @@ use mathlib.Core.Path.{sym, _∙_}
 use native.Mathlib.Omega.{arith}
 use borrow.Author.Tests.{leb-false}
 use Rattle.words.proofs.Clearing.{clear}
-use Rattle.register.specs.Steps.{register, ruleOf}
+use Rattle.register.specs.Steps.{ruleOf}
 use Rattle.register.specs.Changes.{entriesOf}
 use Rattle.register.proofs.Answering.{refuses, accepts}
 use Rattle.register.proofs.steps.register.register.Statement.{statement}
@@ -13,11 +13,10 @@ use Rattle.register.proofs.steps.register.register.Tie as tie
 
 -- the message has been sent, where nothing was refused
 sent : (c : tie.Else1) → c .before .before .args .message .0 < 1024
-unfolding register
 sent c = omega (arith, leb-false _ (c .before .before .args .message .0) (clear _ (sym (c .before .register-refusal .ensures) ∙ c .if1 .left) .1 .0))
 
 pub register-spec : {M : Type 1} → statement M
-unfolding ruleOf entriesOf register
+unfolding ruleOf entriesOf
 register-spec =
     tie.close (tie.spec
     (λ c κs. search needs) (λ c κs. search needs)

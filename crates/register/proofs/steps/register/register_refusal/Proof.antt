@@ -2,12 +2,11 @@
 use borrow.Author.Needs.{needs}
 use Rattle.words.proofs.Turns.{turns, answered-not}
 use Rattle.register.specs.Views.{stage, signed}
-use Rattle.register.specs.Steps.{register}
 use Rattle.register.proofs.steps.register.register_refusal.Statement.{statement}
 use Rattle.register.proofs.steps.register.register_refusal.Tie as tie
 
 pub register-refusal-spec : {M : Type 1} → statement M
-unfolding register stage signed
+unfolding stage signed
 register-refusal-spec =
     tie.close (tie.spec
     (λ c. search turns depth 9)

@@ -28,11 +28,11 @@ start c = c .before .before .before .before .before .before .before .before .bef
 
 -- past the sixth test those that are left decide
 past : (c : tie.Else6) (x : ℕ) → x ≡ first (since 16 (tests (start c))) → x ≡ first (tests (start c))
-unfolding vote until since choose stage
+unfolding until since choose stage
 past c x rest = search turns depth 9
 
 pub proposal-refusal-spec : {M : Type 1} → statement M
-unfolding vote until since choose stage
+unfolding until since choose stage
 proposal-refusal-spec =
     tie.close (tie.spec
     (λ c. search turns depth 9)

@@ -6,7 +6,7 @@ use native.Mathlib.Omega.{arith}
 use borrow.Author.Tests.{leb-false}
 use Rattle.words.proofs.Clearing.{clear}
 use Rattle.register.specs.Effects.{sentStage}
-use Rattle.register.specs.Steps.{vote, ruleOf}
+use Rattle.register.specs.Steps.{ruleOf}
 use Rattle.register.specs.Changes.{entriesOf}
 use Rattle.register.proofs.Answering.{refuses, accepts}
 use Rattle.register.proofs.steps.vote.vote.Statement.{statement}
@@ -14,7 +14,6 @@ use Rattle.register.proofs.steps.vote.vote.Tie as tie
 
 -- the message has been sent, where nothing was refused
 sent : (c : tie.Else1) → c .before .before .args .message .0 < 1024
-unfolding vote
 sent c = omega (arith, leb-false _ (c .before .before .args .message .0) (clear _ (sym (c .before .vote-refusal .ensures) ∙ c .if1 .left) .1 .0))
 
 -- past the refusal, seen from the end
@@ -22,7 +21,7 @@ abbrev before : tie.After-accepted → tie.Else1
 before c = c .before .before .before .before .before .before .before .before .before
 
 pub vote-spec : {M : Type 1} → statement M
-unfolding ruleOf entriesOf vote sentStage
+unfolding ruleOf entriesOf sentStage
 vote-spec =
     tie.close (tie.spec
     (λ c κs. search needs) (λ c κs. search needs)

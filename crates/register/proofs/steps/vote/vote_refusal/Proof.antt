@@ -33,12 +33,12 @@ tests s = vote (given s) (s .args .office) (s .args .message) .tests
 -- those up to 17, as they were found
 found : (c : tie.After-proposal-refusal)
     → c .proposal-refusal .result ≡ first (until 18 (tests (c .before)))
-unfolding vote until choose stage
+unfolding until choose stage
 found c = c .proposal-refusal .ensures
 
 -- past them those that are left decide
 past : (c : tie.Else1) (x : ℕ) → x ≡ first (since 18 (tests (c .before .before))) → x ≡ first (tests (c .before .before))
-unfolding vote positive both
+unfolding positive both
 past c x rest = late 18 _ _ x refl (found (c .before)) (c .if1 .left) rest
 
 -- each of them fails: the message has been sent, and the office is trusted
@@ -46,11 +46,11 @@ fails : (c : tie.Else1) → Clear (until 18 (tests (c .before .before)))
 fails c = clear _ (sym (found (c .before)) ∙ c .if1 .left)
 
 sent : (c : tie.Else1) → c .before .before .args .message .0 < 1024
-unfolding vote until choose
+unfolding until choose
 sent c = omega (arith, leb-false _ (c .before .before .args .message .0) (fails c .1 .0))
 
 trusts : (c : tie.Else1) → trusted (given (c .before .before)) (c .before .before .args .office .0) ≡ true
-unfolding vote until choose
+unfolding until choose
 trusts c = not-false _ (fails c .1 .1 .0)
 
 -- where the call started, seen from past 18
@@ -59,7 +59,7 @@ start c = c .before .before .before .before
 
 -- past 18 those of the parent and of the messages decide
 later : (c : tie.Else2) (x : ℕ) → x ≡ first (since 19 (tests (start c))) → x ≡ first (tests (start c))
-unfolding vote since choose stage signed
+unfolding since choose stage signed
 later c x rest =
     past (c .before .before) x
     (skip _ x _ _ (answered _ _ _ (c .before .is-entered .ensures) (c .if2 .left)) rest)
@@ -71,7 +71,7 @@ past-18 c = c .before .before .before .before .before
 -- the parent's, as they were found
 extends : (c : tie.After-extending-refusal)
     → c .extending-refusal .result ≡ first (until 26 (since 19 (tests (start (past-18 c)))))
-unfolding vote until since choose
+unfolding until since choose
 extends c =
     rw longest-searched
     (rw (c .before .before .parent-at .ensures, c .before .epoch-at .ensures) at (c .extending-refusal .ensures))
@@ -79,11 +79,11 @@ extends c =
 -- past 20 that of the messages decides
 last : (c : tie.Else3) (x : ℕ) → x ≡ first (since 26 (tests (start (past-18 (c .before)))))
     → x ≡ first (tests (start (past-18 (c .before))))
-unfolding vote since choose positive both
+unfolding since choose positive both
 last c x rest = later (past-18 (c .before)) x (late 26 _ _ x refl (extends (c .before)) (c .if3 .left) rest)
 
 pub vote-refusal-spec : {M : Type 1} → statement M
-unfolding vote since choose stage signed
+unfolding since choose stage signed
 vote-refusal-spec =
     tie.close (tie.spec
     (λ c κs. search needs)
