@@ -6,12 +6,12 @@ use super::random::Random;
 use super::run::Run;
 use super::sensible::smooth_epoch;
 use crate::packed::LONGEST_LOG;
-use crate::register::{Block, GENESIS, Kind, Message, Office, Opening, is_quorum};
+use crate::register::{Block, GENESIS, Kind, Message, MessageRecord, Office, Opening, is_quorum};
 
 /// Two chains of a bad leader, and trusted offices that vote for both.
 pub struct Fork {
     leader: Office,
-    /// With the leader they are a quorum, and not one too many.
+    /// With the leader they are a quorum: at first not one too many.
     pub voters: Vec<Office>,
     /// The last blocks of the two chains.
     pub tips: [Block; 2],
@@ -67,11 +67,14 @@ impl Fork {
         votes
     }
 
-    /// Each voter registers the others' votes.
+    /// Each voter registers the others' votes, but of those that come after a
+    /// quorum only some.
     fn register(&self, run: &mut Run, votes: Vec<Message>) {
         for vote in votes {
             for &voter in &self.voters {
-                if voter != run.register.message(vote).signer {
+                let MessageRecord { signer, block, .. } = *run.register.message(vote);
+                let enough = run.register.view(voter).is_notarised(block);
+                if voter != signer && !(enough && run.random.chance(50)) {
                     run.deliver(vote, voter);
                     run.register(voter, vote);
                 }
@@ -88,7 +91,8 @@ impl Fork {
 }
 
 /// A common chain, then a fork, then a race in which one chain gets ahead, then
-/// epochs with any leaders.
+/// epochs with any leaders. Where all trusted offices vote, the signers in a
+/// view differ from block to block.
 pub fn run(mut random: Random) -> Run {
     let common = random.below(4);
     let pairs = match random.below(20) {
@@ -100,12 +104,16 @@ pub fn run(mut random: Random) -> Run {
     let opening = opening_of(&mut random, common + 2 * pairs + race, usual);
     let mut run = Run::new(random, opening, LONGEST_LOG);
     let mut fork = Fork::new(&run);
+    if run.random.chance(50) {
+        fork.voters = run.trusted();
+    }
     for _ in 0..common {
         fork.grow_one(&mut run, 0);
     }
     fork.tips[1] = fork.tips[0];
     for _ in 0..pairs {
         fork.grow(&mut run);
+        run.random.shuffle(&mut fork.voters);
         disturb(&mut run, &fork);
     }
     for _ in 0..race {

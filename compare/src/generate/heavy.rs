@@ -1,6 +1,7 @@
 //! Logs to measure with, nearly all of the greatest length.
 
 mod chain;
+mod dear;
 mod fork;
 mod tables;
 
@@ -42,6 +43,7 @@ pub fn rows() -> Vec<Row> {
         row("deliveries", tables::deliveries(), DELIVER, &[0], 95),
         row("votes, full tables", chain::votes(), VOTE, SEARCHED, 80),
         row("votes on a fork", fork::votes(), VOTE, &[26], 85),
+        row("the dearest votes", dear::votes(), VOTE, &[26], 85),
         row("proposals refused with 19", chain::proposals(), PROPOSE, &[19], 75),
         row("proposals on a fork", fork::proposals(), PROPOSE, &[25], 80),
         row("the growing of a fork", fork::growing(), ANY, &[0], 100),

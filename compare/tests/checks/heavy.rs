@@ -4,7 +4,7 @@ use super::forks::{chains_after_fork, notarised_tips, register_after};
 use skovarnek_compare::check;
 use skovarnek_compare::generate::{Row, rows};
 use skovarnek_compare::packed::read_log;
-use skovarnek_compare::register::{Block, Message, Office, Register, Step};
+use skovarnek_compare::register::{Block, Message, Office, Place, Register, Step};
 use std::collections::BTreeMap;
 use std::sync::LazyLock;
 
@@ -13,10 +13,11 @@ use std::sync::LazyLock;
 type Counts = (&'static str, usize, usize, &'static [(usize, usize)]);
 
 #[rustfmt::skip]
-const COUNTS: [Counts; 13] = [
+const COUNTS: [Counts; 14] = [
     ("deliveries", 65_535, 27_374, &[]),
     ("votes, full tables", 65_536, 27_483, &[(26, 23_661)]),
     ("votes on a fork", 65_536, 27_375, &[(26, 24_345)]),
+    ("the dearest votes", 65_536, 27_429, &[(26, 23_629)]),
     ("proposals refused with 19", 65_535, 17_364, &[(19, 13_807)]),
     ("proposals on a fork", 65_533, 16_961, &[(25, 14_206)]),
     ("the growing of a fork", 6_910, 2_750, &[]),
@@ -100,6 +101,42 @@ fn forks_are_long() {
             let tips = notarised_tips(&register, office);
             assert_eq!(tips, [Block(249), Block(250)], "{name}");
             assert_eq!(chains_after_fork(&register, office), 125, "{name}");
+        }
+    }
+}
+
+/// Two chains of 251 blocks that part below their last blocks. On both, a block
+/// never has the signers of its parent.
+#[test]
+fn dearest_votes_count_signers() {
+    let register = register_after(&row("the dearest votes").log).expect("a log that reads");
+    for office in register.trusted_offices() {
+        let tips = notarised_tips(&register, office);
+        assert_eq!(tips, [Block(251), Block(252)]);
+        let view = register.view(office);
+        let signers = |block| [0, 1, 2, 3].map(|q| view.has_signature(Office(q), block));
+        assert!(tips.iter().all(|&tip| register.chain_length(tip) == 251));
+        assert_eq!(chains_after_fork(&register, office), 1);
+        for block in (1..=252).map(Block) {
+            let parent = register.block(block).parent;
+            assert_ne!(signers(block), signers(parent), "{block:?}");
+        }
+    }
+}
+
+/// In each chunk of 64 messages one is about the block that is voted for, and
+/// some are in the view of each voter.
+#[test]
+fn dearest_votes_read_all_messages() {
+    let register = register_after(&row("the dearest votes").log).expect("a log that reads");
+    let messages: Vec<Message> = (0..1024).map(Message).collect();
+    assert_eq!(register.sent(), messages.len());
+    for chunk in messages.chunks(64) {
+        let about = |&&message: &&Message| register.message(message).block == Block(253);
+        assert_eq!(chunk.iter().filter(about).count(), 1);
+        for office in register.trusted_offices() {
+            let seen = |&message: &Message| register.place(message, office) == Place::View;
+            assert!(chunk.iter().any(seen));
         }
     }
 }
