@@ -5,7 +5,7 @@ use mathlib.Core.Bool.{Bool, true, false, Bool·beq, _&&_, _||_}
 use mathlib.Core.List.{List}
 use mathlib.Core.Logic.{⊎-elim, inl, inr}
 use native.Mathlib.Omega.{arith}
-use native.Mathlib.Nat.{add-zero, add-suc, add-assoc}
+use native.Mathlib.Nat.{add-zero, add-suc}
 use native.Mathlib.Decide.{decLt}
 use borrow.Author.Tests.{le-leb, lt-ltb, ltb-true}
 use lib.Dec.{eqb, ltb}
@@ -30,40 +30,53 @@ abbrev pub signs : (places signers about : List ℕ) → (q signer b : ℕ) → 
 signs places signers about q signer b m = both (eqb (digit 4 (getD places m 0) q) view) (saysIn signers about signer b m)
 
 module _ (places signers about : List ℕ) (q s b from : ℕ) where
-  -- where no message of the chunk that starts at `from` has a signature, the chunk's first messages tell nothing new of it
-  unsigned-past : ((i : ℕ) → i < 64 → signs places signers about q s b (from + i) ≡ false) → (size : ℕ) → size ≤ 64
-      → signedIn places signers about from q s b ≡ signedIn places signers about (from + size) q s b
-  unfolding signedIn any
-  unsigned-past none zero few = rw add-zero
-  unsigned-past none (suc size) few = rw (add-suc, none size (omega arith), either-none) (unsigned-past none size (omega arith))
+  -- of the first `size` messages of the chunk that starts at `from`, none but the first `left` can have that signature
+  abbrev pub Unsigned : (left size : ℕ) → Type 0
+  Unsigned left size = (i : ℕ) → left ≤ i → i < size → signs places signers about q s b (from + i) ≡ false
 
-  -- so where none is about the block
-  pub unsaid-past : any 64 (λ i. eqb (getD about (from + i) 0) b) ≡ false → (size : ℕ) → size ≤ 64
+  -- where none has, they tell nothing new of it
+  pub unsigned-past : (size : ℕ) → Unsigned 0 size → signedIn places signers about from q s b ≡ signedIn places signers about (from + size) q s b
+  unfolding signedIn any
+  unsigned-past zero none = rw add-zero
+  unsigned-past (suc size) none =
+      rw (add-suc, none size (omega arith) (omega arith), either-none) (unsigned-past size (λ i low l. none i low (omega arith)))
+
+  -- so where no message of the chunk has that signer and that block
+  pub unsaid-past : any 64 (λ i. saysIn signers about s b (from + i)) ≡ false → (size : ℕ) → size ≤ 64
+      → signedIn places signers about from q s b ≡ signedIn places signers about (from + size) q s b
+  unsaid-past none size few =
+      unsigned-past size (λ i low l. rw (any-none (λ i. saysIn signers about s b (from + i)) 64 i none (omega arith), both-none))
+
+  -- where none is about the block
+  pub untold-past : any 64 (λ i. eqb (getD about (from + i) 0) b) ≡ false → (size : ℕ) → size ≤ 64
       → signedIn places signers about from q s b ≡ signedIn places signers about (from + size) q s b
   unfolding saysIn
-  unsaid-past none = unsigned-past (λ i l. rw (any-none (λ i. eqb (getD about (from + i) 0) b) 64 i none l, both-none, both-none))
+  untold-past none size few =
+      unsigned-past size (λ i low l. rw (any-none (λ i. eqb (getD about (from + i) 0) b) 64 i none (omega arith), both-none, both-none))
 
   -- and where none is in the view
   pub unseen-past : any 64 (λ i. eqb (digit 4 (getD places (from + i) 0) q) view) ≡ false → (size : ℕ) → size ≤ 64
       → signedIn places signers about from q s b ≡ signedIn places signers about (from + size) q s b
   unfolding both
-  unseen-past none = unsigned-past (λ i l. rw (any-none (λ i. eqb (digit 4 (getD places (from + i) 0) q) view) 64 i none l))
+  unseen-past none size few =
+      unsigned-past size (λ i low l. rw (any-none (λ i. eqb (digit 4 (getD places (from + i) 0) q) view) 64 i none (omega arith)))
 
-  -- a message of the chunk, by what code asks of it: whether it is in the view, and whether it has that signer and that block
-  module _ (i : ℕ) (inside mine : Bool) (ei : inside ≡ eqb (digit 4 (getD places (from + i) 0) q) view) (em : mine ≡ saysIn signers about s b (from + i)) where
-    -- the two answers together tell whether it has that signature
-    tested : inside && mine ≡ signs places signers about q s b (from + i)
-    tested = and-both inside mine ∙ rw (ei, em)
-
+  -- the newest message of the first `left`, by whether it has that signature
+  module _ (left size : ℕ) (some : 0 < left) (t : Bool) (e : t ≡ signs places signers about q s b (from + (left - 1))) where
     -- where it has, some message of the chunk's first has
-    pub signed-hit : (size : ℕ) → i < size → inside && mine ≡ true → true ≡ signedIn places signers about (from + size) q s b
+    pub signed-hit : left ≤ size → t ≡ true → true ≡ signedIn places signers about (from + size) q s b
     unfolding signedIn
-    signed-hit size below hit = sym (any-make _ (from + size) (from + i) (omega arith) (sym tested ∙ hit))
+    signed-hit few hit = sym (any-make _ (from + size) (from + (left - 1)) (omega arith) (sym e ∙ hit))
 
-    -- where it has not, and none before it, none up to it has
-    pub signed-next : signedIn places signers about (from + i) q s b ≡ false → inside && mine ≡ false → signedIn places signers about (from + (i + 1)) q s b ≡ false
-    unfolding signedIn
-    signed-next none miss = rw (← (add-assoc from i 1)) (sym (any-next _ (from + i) false _ (sym none) tested) ∙ miss)
+    -- where it has not, those before it are left
+    pub unsigned-next : Unsigned left size → t ≡ false → Unsigned (left - 1) size
+    unsigned-next none miss i low l =
+        elim (decLt i left) as (λ _. signs places signers about q s b (from + i) ≡ false) [
+          | yes under ↦
+              let here : left - 1 ≡ i = omega arith in
+              sym (rw here at e) ∙ miss
+          | no over ↦ none i (omega arith) l
+        ]
 
 -- one message more of the history
 pub history-next : (votes : List Bool) (signers about : List ℕ) (vote : Bool) (s b m : ℕ) (found mine : Bool)

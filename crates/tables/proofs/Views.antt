@@ -22,7 +22,7 @@ use Rattle.words.proofs.Sums.{tally-ext}
 use Rattle.words.proofs.Digits.{bit-set, fill-ext}
 use Rattle.tables.specs.Messages.{view, saysIn}
 use Rattle.tables.specs.Searches.{blocks, offices, signedIn, setOf, signersIn, tabulate, viewIn, enoughIn}
-use Rattle.tables.proofs.Scans.{signs, unsaid-past}
+use Rattle.tables.proofs.Scans.{signs, untold-past}
 
 -- two tests that agree on the 32 offices make the same set
 set-ext : (p q : ℕ → Bool) → ((s : ℕ) → s < 32 → p s ≡ q s) → setOf p ≡ setOf q
@@ -225,7 +225,7 @@ module _ (places signers about : List ℕ) (q b : ℕ) where
       → any 64 (λ i. eqb (getD about (from + i) 0) b) ≡ false → w ≡ signersIn places signers about (from + size) q b
   unfolding signersIn
   signers-past from size w few h none =
-      h ∙ set-ext _ (λ s. signedIn places signers about (from + size) q s b) (λ s l. unsaid-past places signers about q s b from none size few)
+      h ∙ set-ext _ (λ s. signedIn places signers about (from + size) q s b) (λ s l. untold-past places signers about q s b from none size few)
 
   -- what a view has for the block is enough where its signers are
   pub view-enough : (count n : ℕ) → n ≤ offices → b < blocks

@@ -162,6 +162,26 @@ pub(crate) fn chunk_about<'a>(about: &'a [u8; 1024], from: usize, b: u8) -> bool
     found
 }
 
+// One of the messages of the chunk that starts at `from` has that signer and that block. This loop has no branch either.
+fn chunk_says<'a>(
+    signers: &'a [u8; 1024],
+    about: &'a [u8; 1024],
+    from: usize,
+    signer: u8,
+    b: u8,
+) -> bool
+    requires { ⌜ from ≤ 960 ⌝ }
+    ensures { λ r. ⌜ r ≡ any 64 (λ i. saysIn (lent signers) (lent about) signer b (from + i)) ⌝ }
+{
+    let mut found = false;
+    let mut i = 0;
+    while i < CHUNK {
+        found = found | says(signers, about, signer, b, from + i);
+        i += 1;
+    }
+    found
+}
+
 // One of the messages of the chunk that starts at `from` is in office q's view, the last stage. This loop has no branch either.
 fn chunk_seen<'a>(places: &'a [u64; 1024], from: usize, q: u8) -> bool
     requires { ⌜ from ≤ 960 ⌝ }
@@ -176,9 +196,32 @@ fn chunk_seen<'a>(places: &'a [u64; 1024], from: usize, q: u8) -> bool
     found
 }
 
+// Message m has that signer and that block, and is in office q's view, the last stage. Few messages are about one block, and only of those more is
+// asked: which way the tests of a message go is then seldom a surprise.
+fn is_signature<'a>(
+    places: &'a [u64; 1024],
+    signers: &'a [u8; 1024],
+    about: &'a [u8; 1024],
+    q: u8,
+    signer: u8,
+    b: u8,
+    m: usize,
+) -> bool
+    requires { ⌜ m < 1024 ⌝ }
+    ensures { λ r. ⌜ r ≡ both (eqb (digit 4 (getD (lent places) m 0) q) view) (saysIn (lent signers) (lent about) signer b m) ⌝ }
+{
+    if about[m] != b {
+        return false;
+    }
+    if signers[m] != signer {
+        return false;
+    }
+    words::is_last_stage(places[m], q)
+}
+
 // A message in office q's view, before the chunk that starts at `from` or among the first `size` of that chunk, has that signer and that block,
-// where none before the chunk has. The chunk is looked at message by message, up to the first hit, only where it has a message about that block
-// and one in the view.
+// where none before the chunk has. The chunk is looked at message by message, from the newest up to the first hit, only where it has a message
+// of that signer about that block and one in the view.
 fn chunk_signed<'a>(
     places: &'a [u64; 1024],
     signers: &'a [u8; 1024],
@@ -192,19 +235,18 @@ fn chunk_signed<'a>(
     requires { ⌜ (from ≤ 960) × (size ≤ 64) × (signedIn (now places) (now signers) (now about) from q signer b ≡ false) ⌝ }
     ensures { λ r. ⌜ r ≡ signedIn (lent places) (lent signers) (lent about) (from + size) q signer b ⌝ }
 {
-    if !chunk_about(about, from, b) {
+    if !chunk_says(signers, about, from, signer, b) {
         return false;
     }
     if !chunk_seen(places, from, q) {
         return false;
     }
-    let mut i = 0;
-    while i < size {
-        let m = from + i;
-        if words::is_last_stage(places[m], q) & says(signers, about, signer, b, m) {
+    let mut left = size;
+    while left > 0 {
+        left -= 1;
+        if is_signature(places, signers, about, q, signer, b, from + left) {
             return true;
         }
-        i += 1;
     }
     false
 }
