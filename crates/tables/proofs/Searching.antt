@@ -18,7 +18,7 @@ use Rattle.words.proofs.Sums.{always, tally-always, tally-ext}
 use Rattle.words.proofs.Digits.{bit-set}
 use Rattle.tables.specs.Blocks.{parentIn}
 use Rattle.tables.specs.Chains.{chainBy}
-use Rattle.tables.specs.Searches.{blocks, offices, enoughIn, certifiedBy, certifiedIn, above, certifiedAbove, rank, rankAbove, outranked, longerBy, longestBy, longestIn}
+use Rattle.tables.specs.Searches.{blocks, offices, enoughIn, certifiedBy, certifiedIn, above, certifiedAbove, rank, rankAbove, raised, outranked, longerBy, longestBy, longestIn}
 use Rattle.tables.proofs.Chains.{Down, parent-in-lt, chain-by-genesis, chain-by-step, climb-induction}
 
 -- the chain of genesis is of certified blocks alone
@@ -42,12 +42,7 @@ pub certified-enough : (parent epoch : ℕ → ℕ) (n b set : ℕ) (t : Bool) �
 unfolding certifiedBy
 certified-enough parent epoch n b set t e holds = both-right _ _ (sym e ∙ holds)
 
--- the rank of a chain with so many certified blocks above one of that rank
-unfoldable pub raised : (climbed : ℕ) → (rank : ℕ) → ℕ
-raised climbed zero = zero
-raised climbed (suc k) = suc k + climbed
-
--- with none
+-- a rank raised by no block
 pub raised-start : (r : ℕ) → r ≡ raised 0 r
 unfolding raised
 raised-start zero = refl

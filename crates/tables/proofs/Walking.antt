@@ -1,5 +1,5 @@
--- What a walk keeps of the blocks that its climbs have passed, by the rank s of each block: where the climb started, how many blocks it had
--- passed with this one, and the rank of the block that it started from.
+-- What is kept of the blocks that climbs have passed, by the rank s of each block: where the climb started, how many blocks it had passed with
+-- this one, and the rank of the block that it started from. The first climb is from the block whose rank is to beat; a walk makes the others.
 use Prim.Native.Nat.{ℕ, zero, suc, _+_, _-_, _<_, _≤_}
 use mathlib.Core.Bool.{false}
 use mathlib.Core.Path.{_≡_, refl, sym, ap, _∙_}
@@ -11,9 +11,9 @@ use borrow.Author.Tests.{ne-eqb, le-ltb}
 use lib.Dec.{eqb, ltb}
 use lib.ListN.{length, length-set, getD, set, replicate}
 use lib.Seq.{getD-set-same, getD-set-other}
-use Rattle.words.specs.Tests.{choose}
-use Rattle.tables.specs.Searches.{blocks}
-use Rattle.tables.proofs.Searching.{raised, raised-start}
+use Rattle.words.specs.Tests.{choose, either}
+use Rattle.tables.specs.Searches.{blocks, rankAbove, raised, PassedFrom}
+use Rattle.tables.proofs.Searching.{foot-rank}
 
 -- a rank that is raised is above what it is raised by
 raised-above : (c r : ℕ) → 0 < raised c r → c < raised c r
@@ -26,6 +26,20 @@ raised-joined : (c d r : ℕ) → 0 < d → choose (eqb (raised (d - 1) r) 0) 0 
 unfolding raised choose
 raised-joined c d zero h = refl
 raised-joined c d (suc r) h = rw (ne-eqb (suc r + (d - 1)) 0 (omega arith)) (omega arith)
+
+-- P holds of what is kept of each block passed: where the climb started, and how many blocks it had passed with this one
+abbrev Kept : (P : (y start count : ℕ) → Type 0) → (starts passed : List ℕ) → Type 0
+Kept P starts passed = (y : ℕ) → 0 < getD passed y 0 → P y (getD starts y 0) (getD passed y 0)
+
+-- so it does with one block more
+kept-next : (P : (y start count : ℕ) → Type 0) (starts passed : List ℕ) (at start count : ℕ) → at < length starts → at < length passed
+    → P at start count → Kept P starts passed → Kept P (set starts at start) (set passed at count)
+kept-next P starts passed at start count in-starts in-passed new old y p =
+    elim (ℕ-discrete y at) as (λ _. P y (getD (set starts at start) y 0) (getD (set passed at count) y 0)) [
+      | yes here ↦ rw (here, getD-set-same starts at start 0 in-starts, getD-set-same passed at count 0 in-passed) new
+      | no there ↦ rw (getD-set-other starts at y start 0 there, getD-set-other passed at y count 0 there)
+          (old y (rw (getD-set-other passed at y count 0 there) at p))
+    ]
 
 -- what is kept after a climb
 pub record Settled (s : ℕ → ℕ) (starts passed ranks : List ℕ) : Type 0 where
@@ -96,69 +110,59 @@ module _ (s : ℕ → ℕ) (starts passed ranks : List ℕ) (x : ℕ) where
                 | yes here ↦ absurd (omega arith)
                 | no there ↦ rw (getD-set-other passed at 0 (climbed + 1) 0 there) (h .genesis)
               ];
-          placed = λ y p.
-              elim (ℕ-discrete y at) as (λ _. s (getD (set starts at x) y 0) ≡ raised (getD (set passed at (climbed + 1)) y 0 - 1) (s y)) [
-                | yes here ↦ rw (here, getD-set-same starts at x 0 in-starts, getD-set-same passed at (climbed + 1) 0 in-passed)
-                    (e ∙ ap (λ c. raised c (s at)) (omega arith))
-                | no there ↦ rw (getD-set-other starts at y x 0 there, getD-set-other passed at y (climbed + 1) 0 there)
-                    (h .placed y (rw (getD-set-other passed at y (climbed + 1) 0 there) at p))
-              ];
-          known = λ y p.
-              elim (ℕ-discrete y at) as
-              (λ _. ((getD (set starts at x) y 0 ≡ x) × (below < y)) ⊎ (getD ranks (getD (set starts at x) y 0) 0 ≡ s (getD (set starts at x) y 0))) [
-                | yes here ↦ inl (rw here (getD-set-same starts at x 0 in-starts), omega arith)
-                | no there ↦ rw (getD-set-other starts at y x 0 there)
-                    (⊎-elim (λ o. inl (o .0, omega (arith, o .1))) (λ k. inr k)
-                    (h .known y (rw (getD-set-other passed at y (climbed + 1) 0 there) at p)))
-              ];
+          placed = kept-next (λ y start count. s start ≡ raised (count - 1) (s y)) starts passed at x (climbed + 1) in-starts in-passed
+              (e ∙ ap (λ c. raised c (s at)) (omega arith)) (h .placed);
+          known = kept-next (λ y start count. ((start ≡ x) × (below < y)) ⊎ (getD ranks start 0 ≡ s start)) starts passed at x (climbed + 1)
+              in-starts in-passed (inl (refl, under)) (λ y p. ⊎-elim (λ o. inl (o .0, omega (arith, o .1))) (λ k. inr k) (h .known y p));
         }
 
--- nothing has been passed at first
+-- each entry of a column of zeros is 0
 zeros : (n y : ℕ) → _≡_ {A = ℕ} (getD (replicate n 0) y 0) 0
 zeros zero y = refl
 zeros (suc n) zero = refl
 zeros (suc n) (suc y) = zeros n y
 
--- but genesis and block b, by a climb from block b, whose rank is known
-module _ (s : ℕ → ℕ) (b beat : ℕ) (l : b < blocks) (some : 0 < beat) (genesis : s 0 ≡ 1) (same : beat ≡ s b) where
-  abbrev starts : List ℕ
-  starts = set (set (replicate blocks 0) 0 b) b b
+-- the first climb, from block b
+module _ (view parents epochs : List ℕ) (last n b : ℕ) where
+  abbrev rank : ℕ → ℕ
+  rank x = rankAbove view parents epochs last n x 0
 
-  abbrev passed : List ℕ
-  passed = set (set (replicate blocks 0) 0 beat) b 1
+  abbrev Passed : (starts passed : List ℕ) → Type 0
+  Passed = PassedFrom view parents epochs last n b
 
-  -- what is kept of each block
-  abbrev Kept : (y : ℕ) → Type 0
-  Kept y = (getD starts y 0 ≡ b) × (s b ≡ raised (getD passed y 0 - 1) (s y))
+  -- nothing has been passed at first
+  pub passed-none : Passed (replicate blocks 0) (replicate blocks 0)
+  passed-none = record { sizes = (refl, refl); entries = λ y p. absurd (omega (arith, rw (zeros blocks y) at p)) }
 
-  kept : (y : ℕ) → 0 < getD passed y 0 → Kept y
-  unfolding raised
-  kept y p =
-      elim (ℕ-discrete y b) as (λ _. Kept y) [
-        | yes here ↦ rw (here, getD-set-same (set (replicate blocks 0) 0 b) b b 0 l, getD-set-same (set (replicate blocks 0) 0 beat) b 1 0 l)
-            (refl, raised-start (s b))
-        | no there ↦ rw (getD-set-other (set (replicate blocks 0) 0 b) b y b 0 there, getD-set-other (set (replicate blocks 0) 0 beat) b y 1 0 there)
-            (elim (ℕ-discrete y 0) as
-            (λ _. (getD (set (replicate blocks 0) 0 b) y 0 ≡ b) × (s b ≡ raised (getD (set (replicate blocks 0) 0 beat) y 0 - 1) (s y))) [
-              | yes first ↦ rw (first, genesis) (refl, sym same ∙ omega arith)
-              | no more ↦ absurd
-                  (omega
-                  (arith, rw (getD-set-other (set (replicate blocks 0) 0 beat) b y 1 0 there, getD-set-other (replicate blocks 0) 0 y beat 0 more, zeros blocks y) at p))
-            ])
-      ]
+  module _ (starts passed : List ℕ) (h : Passed starts passed) where
+    -- one block more
+    passed-more : (at count : ℕ) → at < blocks → rank b ≡ raised (count - 1) (rank at) → Passed (set starts at b) (set passed at count)
+    passed-more at count l e =
+        record {
+          sizes = (simp length-set (h .sizes .0), simp length-set (h .sizes .1));
+          entries = kept-next (λ y start count. (start ≡ b) × (rank b ≡ raised (count - 1) (rank y))) starts passed at b count
+              (omega (arith, h .sizes .0)) (omega (arith, h .sizes .1)) (refl, e) (h .entries);
+        }
 
-  pub walk-start : Settled s starts passed (set (replicate blocks 0) b beat)
-  walk-start =
-      record {
-        sizes = (simp length-set refl, simp length-set refl, simp length-set refl);
-        genesis =
-            elim (ℕ-discrete 0 b) as (λ _. 0 < getD passed 0 0) [
-              | yes here ↦ rw (← here) (omega arith)
-              | no there ↦ rw (getD-set-other (set (replicate blocks 0) 0 beat) b 0 1 0 there) some
-            ];
-        placed = λ y p. rw (kept y p .0) (kept y p .1);
-        known = λ y p. rw (kept y p .0) (getD-set-same (replicate blocks 0) b beat 0 l ∙ same);
-      }
+    -- it goes on past a block
+    pub passed-next : (at climbed : ℕ) → at < blocks → rank b ≡ raised climbed (rank at) → Passed (set starts at b) (set passed at (climbed + 1))
+    passed-next at climbed l e = passed-more at (climbed + 1) l (e ∙ ap (λ c. raised c (rank at)) (omega arith))
+
+    -- it ends with a rank that is not 0, and a walk can start
+    module _ (beat : ℕ) (l : b < blocks) (some : 0 < beat) (same : beat ≡ rank b) where
+      -- genesis counts as passed, after all others
+      whole : Passed (set starts 0 b) (set passed 0 beat)
+      unfolding either raised
+      whole = passed-more 0 beat (omega arith) (sym same ∙ rw (foot-rank view parents epochs last n 0 0 refl) (omega arith))
+
+      pub walk-start : Settled rank (set starts 0 b) (set passed 0 beat) (set (replicate blocks 0) b beat)
+      walk-start =
+          record {
+            sizes = (whole .sizes .0, whole .sizes .1, simp length-set refl);
+            genesis = rw (getD-set-same passed 0 beat 0 (omega (arith, h .sizes .1))) some;
+            placed = λ y p. rw (whole .entries y p .0) (whole .entries y p .1);
+            known = λ y p. rw (whole .entries y p .0) (getD-set-same (replicate blocks 0) b beat 0 l ∙ same);
+          }
 
 -- a walk has come to block x: no block up to it has a greater rank
 module _ (s : ℕ → ℕ) (beat x : ℕ) where

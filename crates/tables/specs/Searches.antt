@@ -1,6 +1,7 @@
 -- Definitions that only the contracts of the code's own searches cite, in src/: the rules never name them. In the proofs of `register`,
 -- Searching.antt says what they are in the rules' terms. Each takes the columns or functions that the code reads.
-use Prim.Native.Nat.{ℕ, zero, suc, _+_}
+use Prim.Native.Nat.{ℕ, zero, suc, _+_, _-_, _<_}
+use mathlib.Core.Path.{_≡_}
 use mathlib.Core.Bool.{Bool, not}
 use mathlib.Core.List.{List, [], _∷_}
 use lib.Dec.{eqb, ltb}
@@ -76,6 +77,18 @@ rank certified chain = choose (every certified chain) (length chain + 1) 0
 unfoldable pub rankAbove : (view parents epochs : List ℕ) → (last n b base : ℕ) → ℕ
 rankAbove view parents epochs last n b base =
     rank (certifiedIn view parents epochs last n) (above base (chainBy (parentIn parents last) b))
+
+-- the rank of a chain with so many certified blocks above one of that rank
+unfoldable pub raised : (climbed : ℕ) → (rank : ℕ) → ℕ
+raised climbed zero = zero
+raised climbed (suc k) = suc k + climbed
+
+-- what is kept of the blocks that a climb from block b has passed, in a view: where it started, and how many blocks it had passed with this one
+pub record PassedFrom (view parents epochs : List ℕ) (last n b : ℕ) (starts passed : List ℕ) : Type 0 where
+  pub sizes : (length starts ≡ blocks) × (length passed ≡ blocks)
+  -- it started from b; all that it had passed are certified, so b's rank is that of the block, raised by those above it
+  pub entries : (y : ℕ) → 0 < getD passed y 0
+      → (getD starts y 0 ≡ b) × (rankAbove view parents epochs last n b 0 ≡ raised (getD passed y 0 - 1) (rankAbove view parents epochs last n y 0))
 
 -- the chain of some block up to the last has a greater rank, in a view
 unfoldable pub outranked : (view parents epochs : List ℕ) → (last n beat : ℕ) → Bool

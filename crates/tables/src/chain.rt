@@ -4,11 +4,11 @@ ghost use mathlib.Core.Bool.{true};
 ghost use Prim.Native.Nat.{_+_, _-_, _≤_, _<_, min};
 ghost use lib.Dec.{eqb};
 ghost use lib.ListN.{length, getD};
-ghost use Rattle.words.specs.Lent.{lent};
+ghost use Rattle.words.specs.Lent.{lent, given};
 ghost use Rattle.words.specs.Tests.{choose, either};
 ghost use Rattle.tables.specs.Blocks.{parentIn, epochIn};
 ghost use Rattle.tables.specs.Chains.{chainBy};
-ghost use Rattle.tables.specs.Searches.{messages, offices, viewIn, enoughIn, certifiedBy, certifiedAbove, rankAbove, outranked, longestIn};
+ghost use Rattle.tables.specs.Searches.{messages, offices, viewIn, enoughIn, certifiedBy, certifiedAbove, rankAbove, PassedFrom, outranked, longestIn};
 use crate::limits::office_count;
 use crate::scan::epoch_at;
 use crate::scan::parent_at;
@@ -95,6 +95,39 @@ fn rank_of<'a>(
     climbed + 1
 }
 
+// The rank of block b's chain above genesis, by a climb that keeps of each block passed where it started, and how many blocks it had passed with
+// this one. What the columns come with holds already; at first they have nothing.
+fn first_climb<'a>(
+    view: &'a View,
+    parents: &'a [u8; 256],
+    epochs: &'a [u16; 256],
+    last: u8,
+    n: u8,
+    b: u8,
+    starts: &mut [u8; 256],
+    passed: &mut [u8; 256],
+) -> u16
+    requires { ⌜ (n ≤ offices) × PassedFrom (now view) (now parents) (now epochs) last n b (now starts) (now passed) ⌝ }
+    ensures { λ r. ⌜ (r ≡ rankAbove (lent view) (lent parents) (lent epochs) last n b 0)
+        × PassedFrom (lent view) (lent parents) (lent epochs) last n b (given starts) (given passed) ⌝ }
+{
+    let mut climbed = 0;
+    let mut at = b;
+    let mut known = EVERYONE;
+    while at > 0 {
+        let set = view[at as usize];
+        if !is_certified(parents, epochs, last, n, at, set, known) {
+            return 0;
+        }
+        climbed += 1;
+        starts[at as usize] = b;
+        passed[at as usize] = climbed;
+        known = set;
+        at = parent_at(parents, last, at);
+    }
+    climbed as u16 + 1
+}
+
 // The rank that is kept of a block.
 fn kept_rank<'a>(ranks: &'a [u8; 256], b: u8) -> u8
     ensures { λ r. ⌜ r ≡ getD (lent ranks) b 0 ⌝ }
@@ -115,9 +148,9 @@ fn joined_rank(climbed: u8, rank: u8, passed: u8) -> u16
 }
 
 // Some block's chain has a greater rank than block b's, which is the rank to beat. The walk starts at the first block whose number is great
-// enough for such a chain. A climb ends at a block that was settled before: at genesis, at block b, or where an earlier climb of this walk has
-// passed. Of each block passed the walk keeps where that climb started, and how many blocks it had passed with this one; and of each block that
-// a climb started from, its rank.
+// enough for such a chain. A climb ends at a block that was settled before: at genesis, or where an earlier climb has passed, the first one from
+// block b or one of this walk. Of each block passed the columns say where that climb started, and how many blocks it had passed with this one; and
+// of each block that a climb started from, its rank is kept.
 fn is_outranked<'a>(
     view: &'a View,
     parents: &'a [u8; 256],
@@ -126,19 +159,18 @@ fn is_outranked<'a>(
     n: u8,
     b: u8,
     beat: u8,
+    starts: &mut [u8; 256],
+    passed: &mut [u8; 256],
 ) -> bool
-    requires { ⌜ (n ≤ offices) × (0 < beat) × (beat ≡ rankAbove (now view) (now parents) (now epochs) last n b 0) ⌝ }
+    requires { ⌜ (n ≤ offices) × (0 < beat) × (beat ≡ rankAbove (now view) (now parents) (now epochs) last n b 0)
+        × PassedFrom (now view) (now parents) (now epochs) last n b (now starts) (now passed) ⌝ }
     ensures { λ r. ⌜ r ≡ outranked (lent view) (lent parents) (lent epochs) last n beat ⌝ }
 {
     let mut found = false;
     let mut known = EVERYONE;
-    let mut starts = [0u8; 256];
-    let mut passed = [0u8; 256];
     let mut ranks = [0u8; 256];
     starts[0] = b;
     passed[0] = beat;
-    starts[b as usize] = b;
-    passed[b as usize] = 1;
     ranks[b as usize] = beat;
     let mut x = beat - 1;
     'walk: while x < last {
@@ -184,14 +216,35 @@ pub fn is_longest<'a>(
     ensures { λ r. ⌜ r ≡ longestIn (lent view) (lent parents) (lent epochs) last (min n offices) b ⌝ }
 {
     let few = office_count(n);
-    let rank = rank_of(view, parents, epochs, last, few, b, 0);
+    let mut starts = [0u8; 256];
+    let mut passed = [0u8; 256];
+    let rank = first_climb(
+        view,
+        parents,
+        epochs,
+        last,
+        few,
+        b,
+        &mut starts,
+        &mut passed,
+    );
     if rank == 0 {
         return false;
     }
     if rank > last as u16 {
         return true;
     }
-    !is_outranked(view, parents, epochs, last, few, b, rank as u8)
+    !is_outranked(
+        view,
+        parents,
+        epochs,
+        last,
+        few,
+        b,
+        rank as u8,
+        &mut starts,
+        &mut passed,
+    )
 }
 
 // Every block of block b's chain above block `base` is certified in office q's view; where `base` is genesis or not on the chain, every block of

@@ -13,9 +13,9 @@ use lib.Dec.{eqb}
 use Rattle.words.specs.Tests.{either}
 use Rattle.words.proofs.Tests.{any-make, any-fails}
 use Rattle.tables.specs.Blocks.{parentIn, epochIn}
-use Rattle.tables.specs.Searches.{enoughIn, certifiedBy, certifiedIn, rankAbove, outranked}
+use Rattle.tables.specs.Searches.{enoughIn, certifiedBy, certifiedIn, rankAbove, raised, outranked}
 use Rattle.tables.proofs.Chains.{parent-in-lt}
-use Rattle.tables.proofs.Searching.{everyone-enough, certified-enough, raised, raised-start, foot-rank, next-rank, stop-rank, rank-most}
+use Rattle.tables.proofs.Searching.{everyone-enough, certified-enough, raised-start, next-rank, stop-rank, rank-most}
 use Rattle.tables.proofs.Walking.{Settled, Climbing, Behind, unpassed-above, walk-start, walk-low, climb-start, climb-next, climb-end, kept-most, climb-joined}
 use Rattle.tables.proofs.chain.is_outranked.Statement.{statement}
 use Rattle.tables.proofs.chain.is_outranked.Tie as tie
@@ -25,7 +25,7 @@ abbrev Rank : (view parents epochs : List ℕ) → (last n : ℕ) → ℕ → �
 Rank view parents epochs last n x = rankAbove view parents epochs last n x 0
 
 abbrev Inv-climb : tie.InvT-climb
-Inv-climb view parents epochs last n b beat found₀ known₀ starts₀ passed₀ ranks₀ x climbed₀ at₀ found known starts passed ranks climbed at =
+Inv-climb view parents epochs last n b beat starts₀ passed₀ found₀ known₀ ranks₀ x climbed₀ at₀ starts passed found known ranks climbed at =
     (climbed + at ≤ x)
     × (found ≡ false)
     × (enoughIn known n ≡ true)
@@ -33,10 +33,10 @@ Inv-climb view parents epochs last n b beat found₀ known₀ starts₀ passed�
     × (Rank view parents epochs last n x ≡ raised climbed (Rank view parents epochs last n at))
 
 abbrev μ-climb : tie.MeasureT-climb
-μ-climb view parents epochs last n b beat found₀ known₀ starts₀ passed₀ ranks₀ x climbed₀ at₀ found known starts passed ranks climbed at = at
+μ-climb view parents epochs last n b beat starts₀ passed₀ found₀ known₀ ranks₀ x climbed₀ at₀ starts passed found known ranks climbed at = at
 
 abbrev Inv-walk : tie.InvT-walk
-Inv-walk view parents epochs last n b beat found₀ known₀ starts₀ passed₀ ranks₀ x₀ found known starts passed ranks x =
+Inv-walk view parents epochs last n b beat starts₀ passed₀ found₀ known₀ ranks₀ x₀ starts passed found known ranks x =
     (beat ≤ x + 1)
     × (found ≡ false)
     × (enoughIn known n ≡ true)
@@ -44,16 +44,15 @@ Inv-walk view parents epochs last n b beat found₀ known₀ starts₀ passed₀
     × Behind (Rank view parents epochs last n) beat x
 
 abbrev μ-walk : tie.MeasureT-walk
-μ-walk view parents epochs last n b beat found₀ known₀ starts₀ passed₀ ranks₀ x₀ found known starts passed ranks x = last - x
+μ-walk view parents epochs last n b beat starts₀ passed₀ found₀ known₀ ranks₀ x₀ starts passed found known ranks x = last - x
 
 walk-holds : tie.Need-walk-holds Inv-climb μ-climb Inv-walk μ-walk
-unfolding either
 walk-holds c =
     let a = c .args in (
       search needs,
       refl,
       everyone-enough _ (c .pre .0),
-      walk-start _ (a .b) (a .beat) (omega arith) (c .pre .1) (foot-rank _ _ _ _ _ 0 0 refl) (c .pre .2),
+      walk-start _ _ _ _ _ (a .b) _ _ (c .pre .3) (a .beat) (omega arith) (c .pre .1) (c .pre .2),
       walk-low _ (a .beat) (a .beat - 1) (rank-most _ _ _ _ _) (omega arith),
     )
 
@@ -63,24 +62,28 @@ climb-holds c =
     (search needs, turn .inv .1, turn .inv .2, climb-start _ _ _ _ _ (turn .inv .3), raised-start _)
 
 joined-rank-requires : tie.Need-joined-rank-requires Inv-climb μ-climb Inv-walk μ-walk
-joined-rank-requires c κs = rw (c .kept-rank .ensures) (kept-most _ _ _ _ _ _ 0 (c .before .before .before .climb .inv .3) (c .before .before .if1 .taken))
+joined-rank-requires c κs =
+    let at-if1 = c .before .before .before in
+    rw (c .kept-rank .ensures) (kept-most _ _ _ _ _ _ 0 (at-if1 .before .before .climb .inv .3) (at-if1 .if1 .taken))
 
 -- the rank of each block, by what the function was lent
 abbrev rank : tie.Start Inv-climb μ-climb Inv-walk μ-walk → ℕ → ℕ
 rank s = Rank (s .args .view .now) (s .args .parents .now) (s .args .epochs .now) (s .args .last) (s .args .n)
 
 -- what a climb that comes to a block passed before tells: the rank of the block that it started from
-joined : (c : tie.After-joined-rank Inv-climb μ-climb Inv-walk μ-walk) → let at-walk = c .before .before .before .before .before .before in
+joined : (c : tie.After-joined-rank Inv-climb μ-climb Inv-walk μ-walk)
+    → let at-walk = c .before .before .before .before .before .before .before .before in
     c .joined-rank .result ≡ rank (at-walk .before) (at-walk .walk .x + 1)
 joined c =
-    let at-if1 = c .before .before .before in
-    let turn = at-if1 .before .climb in
+    let at-if1 = c .before .before .before .before in
+    let turn = at-if1 .before .before .climb in
     climb-joined _ _ _ _ _ _ _ (turn .inv .3) _ (at-if1 .if1 .taken) (turn .inv .4) (rw (← (c .before .kept-rank .ensures)) (c .joined-rank .ensures))
 
 walk-again : tie.Need-walk-again Inv-climb μ-climb Inv-walk μ-walk
 walk-again c =
-    let at-walk = c .before .before .before .before .before .before .before in
-    let turn = c .before .before .before .before .before .climb in
+    let at-climb = c .before .before .before .before .before .before .before in
+    let at-walk = at-climb .before .before in
+    let turn = at-climb .climb in
     let x : ℕ = at-walk .walk .x + 1 in
     let met : c .before .joined-rank .result ≡ rank (at-walk .before) x = joined (c .before) in (
       omega (arith, at-walk .walk .inv .0),
@@ -91,21 +94,22 @@ walk-again c =
     )
 
 -- a block that was not passed is above genesis
-above : (c : tie.Else1 Inv-climb μ-climb Inv-walk μ-walk) → 0 < c .before .climb .at
-above c = unpassed-above (c .before .climb .passed) _ (c .before .climb .inv .3 .genesis) (omega (arith, c .if1 .left))
+above : (c : tie.Else1 Inv-climb μ-climb Inv-walk μ-walk) → 0 < c .before .before .climb .at
+above c = unpassed-above (c .before .before .climb .passed) _ (c .before .before .climb .inv .3 .genesis) (omega (arith, c .if1 .left))
 
-unended : (c : tie.Else1 Inv-climb μ-climb Inv-walk μ-walk) → either (eqb (c .before .climb .at) 0) (eqb (c .before .climb .at) 0) ≡ false
+unended : (c : tie.Else1 Inv-climb μ-climb Inv-walk μ-walk) → either (eqb (c .before .before .climb .at) 0) (eqb (c .before .before .climb .at) 0) ≡ false
 unfolding either
-unended c = rw (ne-eqb (c .before .climb .at) 0 (omega (arith, above c)))
+unended c = rw (ne-eqb (c .before .before .climb .at) 0 (omega (arith, above c)))
 
 -- where the block reached is not certified, the block that the climb started from has rank 0
 walk-again-2 : tie.Need-walk-again-2 Inv-climb μ-climb Inv-walk μ-walk
 unfolding certifiedIn certifiedBy
 walk-again-2 c =
     let at-if1 = c .before .before .before in
-    let at-walk = at-if1 .before .before .before in
+    let at-climb = at-if1 .before .before in
+    let at-walk = at-climb .before .before in
     let a = at-walk .before .args in
-    let turn = at-if1 .before .climb in
+    let turn = at-climb .climb in
     let x : ℕ = at-walk .walk .x + 1 in
     let stop = stop-rank (a .view .now) (a .parents .now) (a .epochs .now) (a .last) (a .n) 0 (turn .at) (unended at-if1) _
     (c .before .is-certified .ensures) _ (not-true _ (c .if3 .taken)) in
@@ -121,8 +125,9 @@ climb-again : tie.Need-climb-again Inv-climb μ-climb Inv-walk μ-walk
 unfolding certifiedIn certifiedBy
 climb-again c =
     let at-if1 = c .before .before .before .before in
-    let a = c .before .before .before .before .before .before .before .before .args in
-    let turn = c .before .before .before .before .before .climb in
+    let at-climb = at-if1 .before .before in
+    let a = at-climb .before .before .before .args in
+    let turn = at-climb .climb in
     let at : ℕ = turn .at in
     let under : parentIn (a .parents .now) (a .last) at < at = parent-in-lt (a .parents .now) (a .last) at (above at-if1) in
     let holds : c .before .before .is-certified .result ≡ true = not-false _ (c .before .if3 .left) in
@@ -145,7 +150,7 @@ returns c =
 returns-2 : tie.Need-returns-2 Inv-climb μ-climb Inv-walk μ-walk
 unfolding outranked
 returns-2 c =
-    let at-walk = c .before .before .before .before .before .before .before in
+    let at-walk = c .before .before .before .before .before .before .before .before .before in
     let x : ℕ = at-walk .walk .x + 1 in
     sym (any-make _ _ x (omega arith) (lt-ltb _ (rank (at-walk .before) x) (omega (arith, joined (c .before)))))
 
@@ -153,11 +158,10 @@ pub is-outranked-spec : {M : Type 1} → statement M
 is-outranked-spec =
     tie.close
     (tie.spec Inv-climb μ-climb Inv-walk μ-walk (λ c. search needs) (λ c. search needs) (λ c. search needs) (λ c. search needs)
-    (λ c. search needs) (λ c. search needs) walk-holds (λ c. search needs) climb-holds (λ c. search needs) (λ c. search needs)
-    (λ c. search needs) (λ c. search needs) (λ c κs. search needs) joined-rank-requires (λ c. search needs) (λ c. search needs)
-    (λ c. search needs) (λ c. search needs) walk-again (λ c. search needs) (λ c. search needs) (λ c. search needs)
-    (λ c κs. c .before .before .climb .inv .2) (λ c. search needs) (λ c. search needs) (λ c. search needs) walk-again-2
-    (λ c. omega (arith, above (c .before .before .before))) (λ c. search needs) (λ c. search needs) (λ c. search needs) (λ c. search needs)
-    (λ c κs. search needs)
+    walk-holds (λ c. search needs) climb-holds (λ c. search needs) (λ c. search needs) (λ c. search needs) (λ c. search needs)
+    (λ c κs. search needs) joined-rank-requires (λ c. search needs) (λ c. search needs) (λ c. search needs) (λ c. search needs) walk-again
+    (λ c. search needs) (λ c. search needs) (λ c. search needs) (λ c κs. c .before .before .before .climb .inv .2) (λ c. search needs)
+    (λ c. search needs) (λ c. search needs) walk-again-2 (λ c. omega (arith, above (c .before .before .before))) (λ c. search needs)
+    (λ c. search needs) (λ c. search needs) (λ c. search needs) (λ c κs. search needs)
     (λ c. rw (c .parent-at .ensures) (parent-in-lt _ _ _ (above (c .before .before .before .before))))
     climb-again returns returns-2)

@@ -9,9 +9,9 @@ use borrow.Author.Tests.{not-true, not-false}
 use lib.Dec.{eqb}
 use Rattle.words.specs.Tests.{either}
 use Rattle.tables.specs.Blocks.{parentIn, epochIn}
-use Rattle.tables.specs.Searches.{enoughIn, certifiedBy, certifiedIn, rankAbove}
+use Rattle.tables.specs.Searches.{enoughIn, certifiedBy, certifiedIn, rankAbove, raised}
 use Rattle.tables.proofs.Chains.{parent-in-lt}
-use Rattle.tables.proofs.Searching.{everyone-enough, certified-enough, unmet-above, raised, raised-start, raised-some, foot-rank, next-rank, stop-rank}
+use Rattle.tables.proofs.Searching.{everyone-enough, certified-enough, unmet-above, raised-start, raised-some, foot-rank, next-rank, stop-rank}
 use Rattle.tables.proofs.chain.rank_of.Statement.{statement}
 use Rattle.tables.proofs.chain.rank_of.Tie as tie
 
