@@ -1,6 +1,7 @@
 //! Logs to measure with, nearly all of the greatest length.
 
 mod chain;
+mod crowded;
 mod dear;
 mod fork;
 mod tables;
@@ -49,6 +50,7 @@ pub fn rows() -> Vec<Row> {
         row("the growing of a fork", fork::growing(), ANY, &[0], 100),
         row("finalise, two offices", chain::two_offices_finalise(), FINALISE, &[0], 85),
         row("finalise, 100 blocks apart", chain::finalise_far_apart(), FINALISE, &[0], 85),
+        row("finalise, crowded blocks", crowded::finalise(), FINALISE, &[21], 85),
         row("registers refused with 18", tables::registers(), REGISTER, &[18], 90),
         row("bad sends refused with 22", tables::bad_sends(), BAD_SEND, &[22], 95),
         row("drafts of the last block", tables::drafts(), DRAFT, &[0], 100),

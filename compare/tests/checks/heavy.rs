@@ -13,7 +13,7 @@ use std::sync::LazyLock;
 type Counts = (&'static str, usize, usize, &'static [(usize, usize)]);
 
 #[rustfmt::skip]
-const COUNTS: [Counts; 14] = [
+const COUNTS: [Counts; 15] = [
     ("deliveries", 65_535, 27_374, &[]),
     ("votes, full tables", 65_536, 27_483, &[(26, 23_661)]),
     ("votes on a fork", 65_536, 27_375, &[(26, 24_345)]),
@@ -23,6 +23,7 @@ const COUNTS: [Counts; 14] = [
     ("the growing of a fork", 6_910, 2_750, &[]),
     ("finalise, two offices", 65_535, 30_360, &[]),
     ("finalise, 100 blocks apart", 65_535, 30_360, &[]),
+    ("finalise, crowded blocks", 65_536, 30_473, &[(21, 29_413)]),
     ("registers refused with 18", 65_536, 27_376, &[(18, 25_326)]),
     ("bad sends refused with 22", 65_535, 22_793, &[(22, 21_769)]),
     ("drafts of the last block", 65_535, 14_169, &[]),
@@ -124,19 +125,36 @@ fn dearest_votes_count_signers() {
     }
 }
 
-/// In each chunk of 64 messages one is about the block that is voted for, and
-/// some are in the view of each voter.
+/// In each chunk of 64 messages one is the proposer's about the block that is
+/// voted for, and some are in the view of each voter.
 #[test]
 fn dearest_votes_read_all_messages() {
     let register = register_after(&row("the dearest votes").log).expect("a log that reads");
     let messages: Vec<Message> = (0..1024).map(Message).collect();
     assert_eq!(register.sent(), messages.len());
     for chunk in messages.chunks(64) {
-        let about = |&&message: &&Message| register.message(message).block == Block(253);
-        assert_eq!(chunk.iter().filter(about).count(), 1);
+        let signs = |&&message: &&Message| {
+            let message = register.message(message);
+            (message.signer, message.block) == (Office(3), Block(253))
+        };
+        assert_eq!(chunk.iter().filter(signs).count(), 1);
         for office in register.trusted_offices() {
             let seen = |&message: &Message| register.place(message, office) == Place::View;
             assert!(chunk.iter().any(seen));
+        }
+    }
+}
+
+/// In each chunk of 64 messages some are about each of the two newest blocks.
+#[test]
+fn crowded_blocks_are_in_every_chunk() {
+    let register = register_after(&row("finalise, crowded blocks").log).expect("a log that reads");
+    let messages: Vec<Message> = (0..1024).map(Message).collect();
+    assert_eq!(register.sent(), messages.len());
+    for chunk in messages.chunks(64) {
+        for block in [Block(2), Block(3)] {
+            let about = |&message: &Message| register.message(message).block == block;
+            assert!(chunk.iter().any(about));
         }
     }
 }

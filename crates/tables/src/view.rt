@@ -96,7 +96,7 @@ pub(crate) struct Single {
 }
 
 // So many chunks are read message by message for one block; where more are about it, the view of all blocks is cheaper.
-const FEW: usize = 4;
+const FEW: usize = 2;
 
 // The signers of block b in office q's view, unless too many chunks of messages have one about it. The other chunks are passed over. A block's
 // number is below 256, as a caller that has it from a loop learns here.

@@ -1,6 +1,6 @@
 //! The dearest votes known. Each reads every message for a signature, gathers a
-//! view of three signers for each block, and passes nearly every block twice,
-//! counting its signers each time.
+//! view of three signers for each block, and passes nearly every block, counting
+//! its signers; a checker that climbs a chain for each search passes it twice.
 
 use super::new_run;
 use crate::generate::run::Run;
@@ -8,8 +8,8 @@ use crate::register::{Block, Epoch, Kind, Message, MessageRecord, Office};
 
 /// The last block of a long chain.
 const TIP: Block = Block(251);
-/// A second block on the tip's parent, so that a search for a longer chain
-/// passes all blocks below it once more.
+/// A second block on the tip's parent, below which a search for a longer chain
+/// would pass all blocks once more.
 const TWIN: Block = Block(252);
 /// The block on the tip that is voted for.
 const OFFERED: Block = Block(253);
@@ -99,8 +99,8 @@ impl Growth {
         }
     }
 
-    /// One message of each chunk is about the block that is offered, so that a
-    /// search for a signature on it reads them all.
+    /// One message of each chunk is the bad office's about the block that is
+    /// offered, so that a search for its signature there reads them all.
     fn send_about_offered(&mut self) {
         if self.run.register.sent() >= CHUNK * self.offers {
             self.run.bad_send(BAD, Kind::Vote, BAD, OFFERED);

@@ -13,7 +13,7 @@ use Rattle.tables.proofs.view.signers_of.Tie as tie
 
 abbrev Inv-loop : tie.InvT-loop
 Inv-loop places signers about count q b sent set₀ read₀ from₀ set read from =
-    AtChunk from sent × (set ≡ signersIn places signers about from q b) × (read ≤ 4)
+    AtChunk from sent × (set ≡ signersIn places signers about from q b) × (read ≤ 2)
 
 abbrev μ-loop : tie.MeasureT-loop
 μ-loop places signers about count q b sent set₀ read₀ from₀ set read from = sent - from
