@@ -47,8 +47,8 @@ tested : (c : tie.After-is-certified Inv-loop μ-loop)
 unfolding certifiedIn certifiedBy
 tested c =
     let single = c .before .before .before .signers-of .ensures in
-    c .is-certified .ensures
-    ∙ rw (single .0 (not-false _ (c .before .if2 .left)), view-entry _ _ _ _ _ (c .before .before .before .before .before .before .before .loop .at) (single .1))
+    let at = c .before .before .before .before .before .before .before .loop .at in
+    rw (view-entry _ _ _ _ _ at (single .1), ← (single .0 (not-false _ (c .before .if2 .left)))) (c .is-certified .ensures)
 
 returns-2 : tie.Need-returns-2 Inv-loop μ-loop
 returns-2 c =

@@ -1,9 +1,9 @@
 -- `tables::view::signers_of`: at each turn the set holds the block's signers by the messages before the chunk.
 use borrow.Author.Needs.{needs}
-use Prim.Native.Nat.{_-_, _≤_, min}
+use Prim.Native.Nat.{_+_, _-_, _≤_, min}
 use mathlib.Core.Path.{_≡_, refl, sym, _∙_}
 use mathlib.Core.Bool.{true≢false}
-use mathlib.Core.Logic.{⊎-elim}
+use mathlib.Core.Logic.{inl, inr}
 use native.Mathlib.Omega.{arith}
 use Rattle.tables.specs.Searches.{messages, signersIn}
 use Rattle.tables.proofs.Scans.{AtChunk, past-chunk}
@@ -24,19 +24,31 @@ chunk-signers-requires c κs =
     let turn = at-test .before .loop in
     (omega (arith, turn .inv .0 .1 (at-test .loop-test .taken)), search needs, turn .inv .1)
 
--- a chunk without a message about the block adds no signer, and no chunk that is read
+-- past a chunk the set holds the signers by its messages too: they were read, or none is about the block
+abbrev Held : tie.Joined1 Inv-loop μ-loop → Type 0
+Held c =
+    let turn = c .before .before .before .before .loop in
+    let a = c .before .before .before .before .before .before .args in
+    (c .if1 .set ≡ signersIn (a .places .now) (a .signers .now) (a .about .now) (turn .from + c .before .before .chunk-size .result) (a .q) (a .b))
+    × (c .if1 .read ≤ 2)
+
+held : (c : tie.Joined1 Inv-loop μ-loop) → Held c
+held c =
+    let turn = c .before .before .before .before .loop in
+    let a = c .before .before .before .before .before .before .args in
+    elim (c .if1 .came) as (λ _. Held c) [
+      | inl w ↦ (rw (w .3) (w .2 .ensures), rw (w .4) (omega (arith, turn .inv .2, w .1 .left)))
+      | inr w ↦ (
+        w .1 ∙ signers-past (a .places .now) (a .signers .now) (a .about .now) (a .q) (a .b) _ _ _ (search needs) (turn .inv .1)
+            (sym (c .before .chunk-about .ensures) ∙ w .0 .left),
+        rw (w .2) (turn .inv .2),
+      )
+    ]
+
 loop-again : tie.Need-loop-again Inv-loop μ-loop
 loop-again c =
     let at-test = c .before .before .before in
-    let a = at-test .before .before .before .args in
-    let turn = at-test .before .loop in (
-      past-chunk _ _ _ (turn .inv .0) (at-test .loop-test .taken) (c .before .before .chunk-size .ensures),
-      ⊎-elim (λ w. w .3 ∙ w .2 .ensures)
-          (λ w. w .1 ∙ signers-past (a .places .now) (a .signers .now) (a .about .now) (a .q) (a .b) _ _ _ (search needs) (turn .inv .1)
-          (sym (c .before .chunk-about .ensures) ∙ w .0 .left))
-          (c .if1 .came),
-      ⊎-elim (λ w. rw (w .4) (omega (arith, turn .inv .2, w .1 .left))) (λ w. rw (w .2) (turn .inv .2)) (c .if1 .came),
-    )
+    (past-chunk _ _ _ (at-test .before .loop .inv .0) (at-test .loop-test .taken) (c .before .before .chunk-size .ensures), held c .0, held c .1)
 
 returns-2 : tie.Need-returns-2 Inv-loop μ-loop
 returns-2 c =
