@@ -86,6 +86,7 @@ kind-there total p h = le-ltb (total - p) 4 (omega arith)
 
 pub ruleset skipping = (judging, not-ended, kind-there, refused-at, refused-by, tt)
 
+-- 29 or the end, by the pad, as a refusal or none
 by-pad : (log : List ℕ) (p : ℕ) (pad : Bool)
     → (let number : ℕ = choose (not pad) 29 0 in
     choose pad (skipped 0 0 (8 * length log)) (skipped 0 29 p) ≡ choose (eqb number 0) (skipped 0 0 (8 * length log)) (skipped 0 number p))

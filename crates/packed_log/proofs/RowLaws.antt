@@ -36,6 +36,7 @@ byte kind column = entry kind / 2 ^ (8 * (3 - column)) % 256
 unfoldable right : (part number k : ℕ) → Bool
 right part number k = both (eqb part number) (leb part k)
 
+-- what such a test tells
 told : (part number k : ℕ) → right part number k ≡ true → (part ≡ number) × (part ≤ k)
 unfolding right
 told part number k test = (eqb-true part number (both-left _ (leb part k) test), leb-true part k (both-right (eqb part number) _ test))
@@ -64,6 +65,7 @@ dues-right : all kinds due-right ≡ true
 unfolding all both right width fields
 dues-right = refl
 
+-- the table gives them
 pub table-due : (kind : ℕ) → kind < kinds → (entry kind / 2 ^ 32 ≡ due kind) × (entry kind / 2 ^ 32 ≤ 64)
 table-due kind h = told (entry kind / 2 ^ 32) (due kind) 64 (all-at due-right kinds kind dues-right h)
 

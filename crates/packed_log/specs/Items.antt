@@ -28,7 +28,7 @@ unfoldable pub padded : (log : List ℕ) → (p : ℕ) → Bool
 padded log p = both (ltb (left log p) 8) (eqb (field log p (left log p)) 0)
 
 -- the refusals of an item at position p whose kind is this: 30 for a log over 65,536 bytes; 27 where it ends before the kind does; 28 for a
--- kind that is none; 27 where it ends before the fields do; and 29 at the end for a pad bit that is set or bytes after the pad
+-- kind from 9 up; 27 where it ends before the fields do; and 29 at the end for a pad bit that is set or bytes after the pad
 abbrev pub itemTests : (log : List ℕ) → (p kind : ℕ) → List Refusal
 itemTests log p kind =
     (ltb 65536 (length log) ⇒ 30)

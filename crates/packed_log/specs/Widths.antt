@@ -22,21 +22,30 @@ messageKind = 1
 abbrev epoch : ℕ
 epoch = 9
 
--- so many kinds there are, the end being the first
+-- so many kinds there are, the end being the first: 0 to 8
 abbrev pub kinds : ℕ
 kinds = 9
 
--- the fields of each kind, in the order of the kinds; the end, which has none, is the first
+-- the fields of each kind, in the order of the kinds
 unfoldable pub fields : List (List ℕ)
 fields =
+    -- end
     []
+    -- propose
     ∷ (office ∷ block ∷ payload ∷ [])
+    -- vote
     ∷ (office ∷ message ∷ [])
+    -- register
     ∷ (office ∷ message ∷ [])
+    -- finalise
     ∷ (office ∷ block ∷ [])
+    -- deliver
     ∷ (message ∷ office ∷ [])
+    -- bad send
     ∷ (office ∷ messageKind ∷ office ∷ block ∷ [])
+    -- draft
     ∷ (block ∷ epoch ∷ payload ∷ [])
+    -- advance
     ∷ []
     ∷ []
 

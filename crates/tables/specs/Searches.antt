@@ -88,7 +88,8 @@ pub record PassedFrom (view parents epochs : List ℕ) (last n b : ℕ) (starts 
   pub sizes : (length starts ≡ blocks) × (length passed ≡ blocks)
   -- it started from b; all that it had passed are certified, so b's rank is that of the block, raised by those above it
   pub entries : (y : ℕ) → 0 < getD passed y 0
-      → (getD starts y 0 ≡ b) × (rankAbove view parents epochs last n b 0 ≡ raised (getD passed y 0 - 1) (rankAbove view parents epochs last n y 0))
+      → (getD starts y 0 ≡ b)
+      × (rankAbove view parents epochs last n b 0 ≡ raised (getD passed y 0 - 1) (rankAbove view parents epochs last n y 0))
 
 -- the chain of some block up to the last has a greater rank, in a view
 unfoldable pub outranked : (view parents epochs : List ℕ) → (last n beat : ℕ) → Bool

@@ -7,6 +7,12 @@ use Rattle.packed_log.proofs.ItemLaws.{skipping, refused-by, ended-by, 
 use Rattle.packed_log.proofs.item.skip_kind.Statement.{statement}
 use Rattle.packed_log.proofs.item.skip_kind.Tie as tie
 
+-- the end, by what skipping it gave
+ended : tie.Need-returns-2
+ended c =
+    let pre = c .before .before .before .before .pre in
+    c .skip-end .ensures ∙ ended-by _ _ _ (pre .0) (pre .1) (pre .2) (c .before .if2 .taken)
+
 -- a step whose fields are cut
 cut : tie.Need-returns-3
 cut c =
@@ -29,7 +35,7 @@ skip-kind-spec =
     (λ c κs. search needs)
     (λ c. search skipping depth 12)
     (λ c κs. search needs)
-    (λ c. (let pre = c .before .before .before .before .pre in c .skip-end .ensures ∙ ended-by _ _ _ (pre .0) (pre .1) (pre .2) (c .before .if2 .taken)))
+    ended
     (λ c. search needs) (λ c κs. search needs) (λ c κs. search needs) (λ c κs. search needs)
     cut
     (λ c. search needs)
