@@ -2,7 +2,7 @@
 use Prim.Native.Nat.{ℕ, zero, suc, _+_, _<_, _≤_}
 use mathlib.Core.Path.{_≡_, refl, sym, ap, _∙_}
 use mathlib.Core.Bool.{Bool, true, false, not}
-use mathlib.Core.Logic.{⊎-elim}
+use mathlib.Core.Logic.{_⊎_, inl, inr, ⊎-elim}
 use mathlib.Core.List.{List, [], _∷_}
 use native.Mathlib.Omega.{arith}
 use native.Mathlib.Numerals.{add-one}
@@ -63,6 +63,15 @@ raised-one climbed n false = refl
 pub unmet-above : (at : ℕ) (t : Bool) → either (eqb at 0) t ≡ false → 0 < at
 unmet-above at t more = omega (arith, eqb-false at 0 (either-false-left (eqb at 0) t more))
 
+-- so many blocks of block b's chain have been climbed, up to block `at`, whose chain is the rest
+pub record Climbed (parent : ℕ → ℕ) (b climbed at : ℕ) : Type 0 where
+  pub within : climbed + at ≤ b
+  pub rest : climbed + length (chainBy parent at) ≡ length (chainBy parent b)
+
+-- nothing of it has been climbed yet
+pub climbed-start : (parent : ℕ → ℕ) (b : ℕ) → Climbed parent b 0 b
+climbed-start parent b = record { within = omega arith; rest = omega arith }
+
 module _ (parent : ℕ → ℕ) (down : Down parent) where
   -- the chain of any block but genesis is one longer than its parent's
   pub length-by-step : (b : ℕ) → 0 < b → length (chainBy parent b) ≡ length (chainBy parent (parent b)) + 1
@@ -73,6 +82,20 @@ module _ (parent : ℕ → ℕ) (down : Down parent) where
   length-by-most =
       climb-induction parent down (λ (b : ℕ). length (chainBy parent b) ≤ b) (omega (arith, ap length (chain-by-genesis parent)))
       (λ b h ih. omega (arith, ih, length-by-step b h, down b h))
+
+  -- a climb goes on to the next parent
+  pub climbed-on : (b climbed at : ℕ) → 0 < at → Climbed parent b climbed at → Climbed parent b (climbed + 1) (parent at)
+  climbed-on b climbed at h c =
+      record { within = omega (arith, c .within, down at h); rest = omega (arith, c .rest, length-by-step at h) }
+
+  -- a chain that was climbed down to another block, or for as many blocks as that one's number, is not shorter than its chain
+  pub not-shorter : (b other climbed at : ℕ) → Climbed parent b climbed at → (at ≡ other) ⊎ (other ≤ climbed)
+      → false ≡ ltb (length (chainBy parent b)) (length (chainBy parent other))
+  not-shorter b other climbed at c (inl met) =
+      let one : length (chainBy parent at) ≡ length (chainBy parent other) = ap (λ (x : ℕ). length (chainBy parent x)) met in
+      sym (le-ltb (length (chainBy parent b)) (length (chainBy parent other)) (omega (arith, one, c .rest)))
+  not-shorter b other climbed at c (inr far) =
+      sym (le-ltb (length (chainBy parent b)) (length (chainBy parent other)) (omega (arith, far, length-by-most other, c .rest)))
 
   -- climbs that end at genesis or at a base
   module _ (base : ℕ) where

@@ -2,7 +2,7 @@
 ghost use mathlib.Core.Path.{_≡_};
 ghost use mathlib.Core.Bool.{true};
 ghost use Prim.Native.Nat.{_+_, _-_, _≤_, _<_, min};
-ghost use lib.Dec.{eqb};
+ghost use lib.Dec.{eqb, ltb};
 ghost use lib.ListN.{length, getD};
 ghost use Rattle.words.specs.Lent.{lent, given};
 ghost use Rattle.words.specs.Tests.{choose, either};
@@ -27,6 +27,28 @@ pub fn length_of<'a>(parents: &'a [u8; 256], last: u8, b: u8) -> u8
         at = parent_at(parents, last, at);
     }
     climbed
+}
+
+// The chain of block b is shorter than that of another block. It is not where it has the other block, nor where it has as many blocks as the
+// other's number, which no chain is longer than: a climb as far as the other block tells. Else the lengths do.
+pub fn is_shorter<'a>(parents: &'a [u8; 256], last: u8, b: u8, other: u8) -> bool
+    ensures { λ r. ⌜ r ≡ ltb
+        (length (chainBy (parentIn (lent parents) last) b))
+        (length (chainBy (parentIn (lent parents) last) other)) ⌝ }
+{
+    let mut climbed = 0u8;
+    let mut at = b;
+    while other < at {
+        if other <= climbed {
+            return false;
+        }
+        climbed += 1;
+        at = parent_at(parents, last, at);
+    }
+    if at == other {
+        return false;
+    }
+    length_of(parents, last, b) < length_of(parents, last, other)
 }
 
 // So many blocks of a chain are tested one by one, before the signers of all blocks are gathered.

@@ -8,6 +8,7 @@ mod view;
 
 pub use chain::is_longest;
 pub use chain::is_notarised_above;
+pub use chain::is_shorter;
 pub use chain::length_of;
 pub use scan::epoch_at;
 pub use scan::in_history;
