@@ -1,4 +1,4 @@
-// The numbers of refusal of a packed log; those below 27 are the register's.
+// The numbers of refusal of a packed log; the others are the register's.
 
 pub const CUT: u8 = 27;
 

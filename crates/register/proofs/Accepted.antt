@@ -10,8 +10,8 @@ use Rattle.words.proofs.Tests.{both-left, both-false, either-false-left, either
 use Rattle.words.proofs.Clearing.{clear}
 use Rattle.tables.specs.Blocks.{trustedIn}
 use Rattle.register.specs.Types.{Office, Block, Message, Kind, Step, Header, Book}
-use Rattle.register.specs.Tables.{trusted, acted, parentOf, epochOf, aboutOf}
-use Rattle.register.specs.Chains.{longest}
+use Rattle.register.specs.Tables.{trusted, acted, finalOf, parentOf, epochOf, aboutOf}
+use Rattle.register.specs.Chains.{chainLength, longest}
 use Rattle.register.specs.Refusals.{notInHand, inHistory, blocksFull}
 use Rattle.register.specs.Steps.{propose, vote, register, finalise, deliver, badSend, draft, advance, ruleOf}
 use Rattle.register.proofs.Places.{Placed, placed}
@@ -49,6 +49,7 @@ pub record Finalises (r : Book) (q b : ℕ) : Type 0 where
   pub block : b ≤ r .last .0
   pub trusted : trusted r q ≡ true
   pub three : Consecutive r q b (parentOf r b) (parentOf r (parentOf r b))
+  pub forward : chainLength r (finalOf r q) ≤ chainLength r (parentOf r b)
 
 pub record BadSends (r : Book) (kind : Kind) (signer b : ℕ) : Type 0 where
   pub office : signer < r .n
@@ -114,6 +115,7 @@ module _ (r : Book) where
         block = ltb-false _ _ (fails .1 .0);
         trusted = not-false _ (fails .1 .1 .0);
         three = consecutive r (office .0) (newest .0) (not-false _ (fails .1 .1 .1 .0));
+        forward = ltb-false _ _ (fails .1 .1 .1 .1 .0);
       }
 
   bad-sends : (sender : Office) (kind : Kind) (signer : Office) (about : Block) → first (badSend r sender kind signer about .tests) ≡ 0

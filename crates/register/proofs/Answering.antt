@@ -6,21 +6,24 @@ use mathlib.Core.Bool.{Bool, true, false, not, _||_}
 use native.Mathlib.Omega.{arith}
 use borrow.Author.Tests.{le-leb, lt-leb, lt-ltb, ltb-true, eq-eqb, ne-eqb}
 use lib.Dec.{ltb, leb}
+use lib.ListN.{length, getD-replicate}
 use Rattle.words.specs.Tests.{choose, both, either}
 use Rattle.words.specs.Refusals.{Refusal, first, until, since}
 use Rattle.words.proofs.Tests.{or-either, both-make, both-fails, any-same}
 use Rattle.words.proofs.Refusals.{positive, first-early, first-late}
 use Rattle.words.proofs.Turns.{turns}
-use Rattle.tables.specs.Blocks.{namedIn}
+use Rattle.tables.specs.Blocks.{parentIn, namedIn}
+use Rattle.tables.specs.Chains.{chainBy}
 use Rattle.tables.specs.Searches.{signedIn, viewIn, certifiedAbove, longestIn}
 use Rattle.tables.proofs.Scans.{named-most}
-use Rattle.register.specs.Types.{Step, Book, Change}
-use Rattle.register.specs.Books.{scalarsOf}
+use Rattle.register.specs.Types.{Step, OfficeState, Book, Scalars, Change}
+use Rattle.register.specs.Books.{block, scalarsOf}
 use Rattle.register.specs.Tables.{trusted}
 use Rattle.register.specs.Views.{stage, signed, signers, notarised}
 use Rattle.register.specs.Chains.{chain, chainNotarised, longer, longest}
+use Rattle.register.specs.Refusals.{finalises, behind}
 use Rattle.register.specs.Steps.{ruleOf}
-use Rattle.register.specs.Lent.{lentBook, blocks, messages}
+use Rattle.register.specs.Lent.{lentBook, heldBook, blocks, messages}
 use Rattle.register.specs.Changes.{refusing, accepting, entriesOf, changeBy}
 use Rattle.register.proofs.Searching.{signed-in, longest-by, notarised-above}
 
@@ -44,6 +47,29 @@ pub found-notarised : (r : Book) (q base b : ℕ) (x : Bool) → r .count ≤ 10
     (min (r .n) 32) b base
     → x ≡ chainNotarised r q b
 found-notarised r q base b x few offices k l t known e = e ∙ sym (notarised-above r few offices q t base b k l known)
+
+-- the tests of a finalise step, as they are found by the columns that are lent and the acting office's state
+module _ (s : Scalars) (parents epochs signers about places : List ℕ) (state : OfficeState) (q b : ℕ) where
+  abbrev lent : Book
+  lent = lentBook s [] (blocks parents epochs []) (messages [] signers about places)
+
+  abbrev held : Book
+  held = heldBook s [] (blocks parents epochs []) (messages [] signers about places) state
+
+  -- 21 asks for no office's state
+  pub found-final : (x u : Bool) → x ≡ finalises lent q b → not x ≡ u → not (finalises held q b) ≡ u
+  unfolding finalises chainNotarised notarised signed stage chain
+  found-final x u e f = ap not (sym e) ∙ f
+
+  -- 32 asks for the final block of the office, which the table has
+  pub found-behind : (c : ℕ) (x u : Bool) → q < 32 → c ≡ parentIn parents (s .last .0) b
+      → x
+      ≡ ltb (length (chainBy (parentIn parents (s .last .0)) c))
+      (length (chainBy (parentIn parents (s .last .0)) (state .finalised .0)))
+      → x ≡ u → behind held q b ≡ u
+  unfolding chain
+  found-behind c x u there parent e f =
+      rw (getD-replicate 32 q state (record { finalised = block 0 }) there, ← parent) (sym e ∙ f)
 
 -- a number that a call gave is, or is not, at least the one that the test asks about
 pub found-least : (a r b : ℕ) → r ≡ b → a ≤ r → leb a b ≡ true
@@ -69,7 +95,7 @@ module _ (parents epochs payloads : List ℕ) (last p e w b : ℕ) where
   pub found-room : b ≡ block-named → b ≤ 255 → both (ltb last block-named) (leb 255 last) ≡ false
   found-room i h = both-fails _ _ (λ needed. lt-leb 255 last (omega (arith, ltb-true last block-named needed)))
 
-pub ruleset answers = (turns, found-least, found-less, found-either, found-full, found-room)
+pub ruleset answers = (turns, found-least, found-less, found-either, found-full, found-room, found-final)
 
 -- a refusal that the tests before the one numbered k gave is the list's
 pub early : (k : ℕ) (rs : List Refusal) (x : ℕ) → x ≡ first (until k rs) → (x ≡ 0 → ⊥) → x ≡ first rs

@@ -19,7 +19,7 @@ use Rattle.register.specs.Tables.{stateOf, parentOf, finalOf}
 use Rattle.register.specs.Chains.{chainNotarised}
 use Rattle.register.specs.Effects.{withBlock, withSent, withMoved, withActed, withState, withNextEpoch}
 use Rattle.register.specs.Steps.{refusal, judged, ruleOf}
-use Rattle.register.specs.Settled.{Settled, AllSettled, Base, settledBase, actorOf}
+use Rattle.register.specs.Settled.{Settled, AllSettled, Base, settledBase, actorOf, Acts}
 use Rattle.register.proofs.Chains.{parent-le, genesis-notarised, notarised-parent}
 use Rattle.register.proofs.Naming.{named-keeps}
 use Rattle.register.proofs.Accepted.{Accepted, accepted}
@@ -134,12 +134,6 @@ settled-base r set q at all fits own =
       | yes l ↦ base-by r set q at all l (own l) (eqb (digit 2 set q) 1) refl
       | no l ↦ rw (digit-past 2 set 32 q fits (omega arith)) (genesis-notarised r q)
     ]
-
--- what is known of a step's actor: its place in the table, which is its number where the table has that, and its base
-pub record Acts (r : Book) (step : Step) (actor : Actor) : Type 0 where
-  pub within : actor .at < 32
-  pub own : actorOf step .0 < 32 → actor .at ≡ actorOf step .0
-  pub base : Base r (actorOf step .0) (actor .base .0)
 
 -- what the code finds of a step's actor
 pub acts : (r : Book) (step : Step) (set : ℕ) (office : Office) (actor : Actor) → office ≡ actorOf step

@@ -3,8 +3,10 @@
 use Prim.Native.Nat.{ℕ, _≤_}
 use mathlib.Core.Bool.{Bool}
 use mathlib.Core.List.{List, []}
-use Rattle.register.specs.Types.{Book, Scalars}
+use lib.ListN.{replicate}
+use Rattle.register.specs.Types.{OfficeState, Book, Scalars}
 use Rattle.register.specs.Limits.{mostOffices, mostEpochs, mostBlocks, mostMessages}
+use Rattle.register.specs.Books.{blocksOf, messagesOf, changed}
 use Rattle.register.specs.Opening.{blank}
 
 -- columns of blocks and of messages
@@ -60,6 +62,12 @@ nothing = blank 0 0 0 0 []
 -- the book as far as it is lent
 abbrev pub lentBook : Scalars → (leaders : List ℕ) → BlockColumns → MessageColumns → Book
 lentBook s leaders blocks messages = wholeBook s leaders blocks messages nothing
+
+-- the same with the acting office's state, which every office holds here
+abbrev pub heldBook : Scalars → (leaders : List ℕ) → BlockColumns → MessageColumns → OfficeState → Book
+heldBook s leaders blocks messages state =
+    wholeBook s leaders blocks messages
+    (changed nothing (nothing .epoch) (nothing .acted) (blocksOf nothing) (messagesOf nothing) (replicate mostOffices state))
 
 -- a book by its own columns, with single numbers as they were read
 abbrev pub readBook : Scalars → Book → Book

@@ -8,9 +8,9 @@ use Rattle.words.specs.Tests.{both, either, conj}
 use Rattle.tables.specs.Messages.{historyIn}
 use Rattle.register.specs.Types.{Kind, Header, Book}
 use Rattle.register.specs.Limits.{mostBlocks, mostMessages, widestEpoch}
-use Rattle.register.specs.Tables.{trusted, leaderOf, parentOf, epochOf, named, signerOf, aboutOf, isVote}
+use Rattle.register.specs.Tables.{trusted, leaderOf, finalOf, parentOf, epochOf, named, signerOf, aboutOf, isVote}
 use Rattle.register.specs.Views.{inTransit, inInbox, signed}
-use Rattle.register.specs.Chains.{chainNotarised, longest}
+use Rattle.register.specs.Chains.{chainLength, chainNotarised, longest}
 
 -- 6: the number is not below n
 abbrev pub noOffice : Book → ℕ → Bool
@@ -100,3 +100,7 @@ blocksFull r new = both (ltb (r .last .0) (named r new)) (leb mostBlocks (r .las
 -- 26: there are 1,024 messages
 abbrev pub messagesFull : Book → Bool
 messagesFull r = leb mostMessages (r .count)
+
+-- 32: the new final chain, that of block b's parent, would be shorter than the office's present one
+abbrev pub behind : Book → ℕ → ℕ → Bool
+behind r q b = ltb (chainLength r (parentOf r b)) (chainLength r (finalOf r q))

@@ -6,7 +6,7 @@ use mathlib.Core.Path.{_≡_}
 use lib.Dec.{eqb}
 use Rattle.words.specs.Tests.{choose}
 use Rattle.words.specs.Digits.{digit}
-use Rattle.register.specs.Types.{Office, Block, Step, OfficeState, Book}
+use Rattle.register.specs.Types.{Office, Block, Step, OfficeState, Book, Actor}
 use Rattle.register.specs.Limits.{mostOffices}
 use Rattle.register.specs.Books.{block}
 use Rattle.register.specs.Tables.{finalOf}
@@ -43,3 +43,9 @@ actorOf (Step.Deliver message office) = nobody
 actorOf (Step.BadSend sender kind signer about) = nobody
 actorOf (Step.Draft parent epoch payload) = nobody
 actorOf Step.Advance = nobody
+
+-- what is known of a step's actor: its place in the table of offices, which is its number where the table has that, and its base
+pub record Acts (r : Book) (step : Step) (actor : Actor) : Type 0 where
+  pub within : actor .at < mostOffices
+  pub own : actorOf step .0 < mostOffices → actor .at ≡ actorOf step .0
+  pub base : Base r (actorOf step .0) (actor .base .0)

@@ -30,6 +30,7 @@ use Rattle.register.specs.Refusals.{
   spent,
   blocksFull,
   messagesFull,
+  behind,
 }
 use Rattle.register.specs.Effects.{withNamed, withSent, withMoved, withActed, withState, finalising, withNextEpoch}
 
@@ -110,13 +111,19 @@ register r office message =
       value = m;
     }
 
--- Finalise: the final block becomes the parent of a block that meets the condition.
+-- Finalise: the final block becomes the parent of a block that meets the condition, unless the final chain would get shorter.
 abbrev pub finalise : Book → Office → Block → Rule
 finalise r office newest =
     let q : ℕ = office .0 in
     let b : ℕ = newest .0 in
     record {
-      tests = (noOffice r q ⇒ 6) ∷ (noBlock r b ⇒ 7) ∷ (barred r q ⇒ 10) ∷ (notFinal r q b ⇒ 21) ∷ [];
+      tests =
+          (noOffice r q ⇒ 6)
+          ∷ (noBlock r b ⇒ 7)
+          ∷ (barred r q ⇒ 10)
+          ∷ (notFinal r q b ⇒ 21)
+          ∷ (behind r q b ⇒ 32)
+          ∷ [];
       effect = withState r q (finalising (stateOf r q) (parentOf r b));
       value = parentOf r b;
     }

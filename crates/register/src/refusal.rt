@@ -54,11 +54,14 @@ pub const BLOCKS_FULL: u8 = 25;
 
 pub const MESSAGES_FULL: u8 = 26;
 
+pub const BEHIND: u8 = 32;
+
 // All of them, in the order of their table.
-pub fn numbers() -> [u8; 26]
+pub fn numbers() -> [u8; 27]
     ensures { λ r. ⌜ r ≡
         1 ∷ 2 ∷ 3 ∷ 4 ∷ 5 ∷ 6 ∷ 7 ∷ 8 ∷ 9 ∷ 10 ∷ 11 ∷ 12 ∷ 13 ∷
-        14 ∷ 15 ∷ 16 ∷ 17 ∷ 18 ∷ 19 ∷ 20 ∷ 21 ∷ 22 ∷ 23 ∷ 24 ∷ 25 ∷ 26 ∷ [] ⌝ }
+        14 ∷ 15 ∷ 16 ∷ 17 ∷ 18 ∷ 19 ∷ 20 ∷ 21 ∷ 22 ∷ 23 ∷ 24 ∷ 25 ∷ 26 ∷
+        32 ∷ [] ⌝ }
 {
     [
         COUNT,
@@ -87,5 +90,6 @@ pub fn numbers() -> [u8; 26]
         SPENT,
         BLOCKS_FULL,
         MESSAGES_FULL,
+        BEHIND,
     ]
 }

@@ -1,4 +1,4 @@
-// Finalise: an office's final block becomes the parent of a block that meets the condition.
+// Finalise: an office's final block becomes the parent of a block that meets the condition, unless its final chain would get shorter.
 ghost use mathlib.Core.Path.{_≡_};
 ghost use mathlib.Core.Bool.{true, not};
 ghost use mathlib.Core.List.{[], _∷_};
@@ -11,7 +11,7 @@ ghost use Rattle.tables.specs.Blocks.{trustedIn, epochIn};
 ghost use Rattle.register.specs.Types.{Step};
 ghost use Rattle.register.specs.Refusals.{finalises};
 ghost use Rattle.register.specs.Steps.{finalise};
-ghost use Rattle.register.specs.Lent.{Counted, lentBook, blocks, messages};
+ghost use Rattle.register.specs.Lent.{Counted, lentBook, heldBook, blocks, messages};
 ghost use Rattle.register.specs.Changes.{changeBy};
 ghost use Rattle.register.specs.Settled.{Base};
 use crate::book::Scalars;
@@ -88,7 +88,7 @@ fn is_final<'a>(
     )
 }
 
-// The refusal of a finalise step, 0 where there is none. In the office's view the base's chain is notarised.
+// The refusal of a finalise step by an office that holds that state, 0 where there is none. In the office's view the base's chain is notarised.
 fn finalise_refusal<'a>(
     scalars: Scalars,
     parents: &'a Parents,
@@ -97,6 +97,7 @@ fn finalise_refusal<'a>(
     about: &'a About,
     places: &'a Places,
     base: Block,
+    state: OfficeState,
     office: Office,
     newest: Block,
 ) -> u8
@@ -105,8 +106,8 @@ fn finalise_refusal<'a>(
         (lentBook scalars [] (blocks (now parents) (now epochs) []) (messages [] (now signers) (now about) (now places)))
         (office .0) (base .0) ⌝ }
     ensures { λ r. ⌜ r ≡ first (finalise
-        (lentBook scalars [] (blocks (lent parents) (lent epochs) [])
-        (messages [] (lent signers) (lent about) (lent places)))
+        (heldBook scalars [] (blocks (lent parents) (lent epochs) [])
+        (messages [] (lent signers) (lent about) (lent places)) state)
         office newest .tests) ⌝ }
 {
     if scalars.n <= office.0 {
@@ -131,6 +132,10 @@ fn finalise_refusal<'a>(
     ) {
         return refusal::NOT_FINAL;
     }
+    let c = tables::parent_at(parents, scalars.last.0, newest.0);
+    if tables::is_shorter(parents, scalars.last.0, c, state.finalised.0) {
+        return refusal::BEHIND;
+    }
     0
 }
 
@@ -152,8 +157,8 @@ pub(crate) fn finalise<'a>(
         (lentBook scalars [] (blocks (now parents) (now epochs) []) (messages [] (now signers) (now about) (now places)))
         (office .0) (base .0) ⌝ }
     ensures { λ r. ⌜ r ≡ changeBy unchanged
-        (lentBook scalars [] (blocks (lent parents) (lent epochs) [])
-        (messages [] (lent signers) (lent about) (lent places)))
+        (heldBook scalars [] (blocks (lent parents) (lent epochs) [])
+        (messages [] (lent signers) (lent about) (lent places)) (unchanged .office .state))
         (Step.Finalise office newest) ⌝ }
 {
     let refusal = finalise_refusal(
@@ -164,6 +169,7 @@ pub(crate) fn finalise<'a>(
         about,
         places,
         base,
+        unchanged.office.state,
         office,
         newest,
     );

@@ -5,7 +5,7 @@ ghost use mathlib.Core.List.{[]};
 ghost use Rattle.words.specs.Lent.{lent};
 ghost use Rattle.register.specs.Lent.{Counted, lentBook, wholeBook, blocks, messages};
 ghost use Rattle.register.specs.Changes.{unchangedOf, ChangeFor};
-ghost use Rattle.register.specs.Settled.{Base, actorOf};
+ghost use Rattle.register.specs.Settled.{Acts};
 use crate::actor::Actor;
 use crate::book::Scalars;
 use crate::change::Answer;
@@ -112,10 +112,10 @@ pub(crate) fn judge<'a>(
     step: Step,
 ) -> Change
     requires { ⌜ (fits ≡ true → Counted scalars)
-        × Base
+        × Acts
         (lentBook scalars (now leaders) (blocks (now parents) (now epochs) (now payloads))
         (messages (now votes) (now signers) (now about) (now places)))
-        (actorOf step .0) (actor .base .0) ⌝ }
+        step actor ⌝ }
     ensures { λ r. ⌜ ChangeFor fits
         (wholeBook scalars (lent leaders) (blocks (lent parents) (lent epochs) (lent payloads))
         (messages (lent votes) (lent signers) (lent about) (lent places)))

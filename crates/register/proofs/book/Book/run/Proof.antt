@@ -11,9 +11,10 @@ use Rattle.register.specs.Tables.{stateOf}
 use Rattle.register.specs.Views.{stage, signed, notarised}
 use Rattle.register.specs.Chains.{chain, chainNotarised}
 use Rattle.register.specs.Fitness.{fit}
+use Rattle.register.specs.Settled.{Acts}
 use Rattle.register.proofs.Writing.{written}
 use Rattle.register.proofs.Carrying.{CarriesOut, carries-read}
-use Rattle.register.proofs.Settling.{Acts, acts}
+use Rattle.register.proofs.Settling.{acts}
 use Rattle.register.proofs.Running.{Held, held-none, held-next, held-counts, held-all}
 use Rattle.register.proofs.book.Book.run.Statement.{statement}
 use Rattle.register.proofs.book.Book.run.Tie as tie
@@ -69,7 +70,7 @@ judge-requires : tie.Need-judge-requires Inv-loop μ-loop
 unfolding chainNotarised notarised signed stage chain
 judge-requires c κs =
     let at = read c .before in
-    rw (read c .scalars .ensures) (held-counts (turn at .before .loop .inv .1), acting at .base)
+    rw (read c .scalars .ensures) (held-counts (turn at .before .loop .inv .1), record { within = acting at .within; own = acting at .own; base = acting at .base })
 
 -- the turn, seen from where the step has been judged
 abbrev judged-turn : tie.After-judge Inv-loop μ-loop → tie.In-loop Inv-loop μ-loop
