@@ -13,41 +13,52 @@ use Rattle.register.specs.Books.{bookOf}
 use Rattle.register.specs.Steps.{bookRule, stepRule}
 use Rattle.register.specs.Runs.{afterSteps, Run, opened, moment}
 use Rattle.register.proofs.Typing.{step-book}
+use Rattle.register.proofs.Ranges.{Ranges}
 use Rattle.register.proofs.FitSteps.{ranges-step}
 use Rattle.register.proofs.Running.{after-append}
-use Rattle.register.specs.Tables.{parentOf}
+use Rattle.register.specs.Tables.{trusted, finalOf, parentOf}
 use Rattle.register.specs.Chains.{chain, chainLength, begins, chainNotarised}
 use Rattle.register.proofs.Chains.{parent-le, chain-genesis, chain-step, notarised-on, on-own-chain}
 use Rattle.register.proofs.Finalising.{Consecutive}
-use Rattle.register.proofs.Growth.{Grows, grows-refl, grows-trans, chain-same, length-kept, chain-notarised-kept, consecutive-kept}
+use Rattle.register.proofs.Growth.{Grows, grows-refl, grows-trans, trusted-kept, chain-same, length-kept, chain-notarised-kept, consecutive-kept}
 use Rattle.agreement.specs.Claim.{chainOf, finalChain, Trusted, Notarised, Begins, Agreement}
 use Rattle.agreement.proofs.Safety.{Finalised, genesis, middle, Safe, Lawful, signed-le}
-use Rattle.agreement.proofs.Preservation.{safe-step}
+use Rattle.agreement.proofs.Preservation.{safe-step, forward-step}
 use Rattle.agreement.proofs.Steps.{lawful}
 use Rattle.agreement.proofs.Conflict.{shared-signer, middle-on-chain}
 use Rattle.agreement.proofs.Opening.{safe-opened}
 
--- every step from a safe book gives a safe book
-safe-next : (r : Register) (step : Step) → Safe (bookOf r) → Safe (bookOf (stepRule r step .register)) × Grows (bookOf r) (bookOf (stepRule r step .register))
-safe-next r step safe =
-    let law : Lawful (bookOf r) (bookRule (bookOf r) step .book) = lawful (bookOf r) step (safe .ranges) in
-    subst⁻¹ (λ (b : Book). Safe b × Grows (bookOf r) b) (step-book r step)
-    (safe-step safe (ranges-step (bookOf r) step (safe .ranges)) law, law .grows)
+-- what steps make of a safe book: a safe one that has grown, in which no trusted office's final chain has got shorter
+pub record Onward (r s : Book) : Type 0 where
+  pub safe : Safe s
+  pub grows : Grows r s
+  pub forward : (p : ℕ) → trusted r p ≡ true → chainLength r (finalOf r p) ≤ chainLength s (finalOf s p)
 
--- so does every list of steps, and the book grows
-pub safe-after : (steps : List Step) (r : Register) → Safe (bookOf r)
-    → Safe (bookOf (afterSteps r steps)) × Grows (bookOf r) (bookOf (afterSteps r steps))
+-- every step does so
+onward-next : (r : Register) (step : Step) → Safe (bookOf r) → Onward (bookOf r) (bookOf (stepRule r step .register))
+onward-next r step safe =
+    let law : Lawful (bookOf r) (bookRule (bookOf r) step .book) = lawful (bookOf r) step (safe .ranges) in
+    let ranges : Ranges (bookRule (bookOf r) step .book) = ranges-step (bookOf r) step (safe .ranges) in
+    subst⁻¹ (Onward (bookOf r)) (step-book r step)
+    (record { safe = safe-step safe ranges law; grows = law .grows; forward = forward-step safe ranges law })
+
+-- so does every list of steps
+pub onward-after : (steps : List Step) (r : Register) → Safe (bookOf r) → Onward (bookOf r) (bookOf (afterSteps r steps))
 unfolding afterSteps
-safe-after [] r safe = (safe, grows-refl (bookOf r))
-safe-after (x ∷ xs) r safe =
-    let next = safe-next r x safe in
-    let end = safe-after xs (stepRule r x .register) (next .0) in
-    (end .0, grows-trans (next .1) (end .1))
+onward-after [] r safe = record { safe = safe; grows = grows-refl (bookOf r); forward = λ p t. omega arith }
+onward-after (x ∷ xs) r safe =
+    let next = onward-next r x safe in
+    let end = onward-after xs (stepRule r x .register) (next .safe) in
+    record {
+      safe = end .safe;
+      grows = grows-trans (next .grows) (end .grows);
+      forward = λ p t. omega (arith, next .forward p t, end .forward p (trusted-kept (next .grows) p ∙ t));
+    }
 
 -- every moment is safe
 pub safe-moment : (run : Run) (i : ℕ) → Safe (bookOf (moment run i))
 unfolding moment
-safe-moment run i = safe-after (take i (run .steps)) (opened run) (safe-opened run) .0
+safe-moment run i = onward-after (take i (run .steps)) (opened run) (safe-opened run) .safe
 
 -- the register after the whole list
 last : Run → Register
@@ -55,7 +66,7 @@ last run = afterSteps (opened run) (run .steps)
 
 safe-last : (run : Run) → Safe (bookOf (last run))
 unfolding last
-safe-last run = safe-after (run .steps) (opened run) (safe-opened run) .0
+safe-last run = onward-after (run .steps) (opened run) (safe-opened run) .safe
 
 -- the steps that are left lead from every moment to the last
 to-last : (run : Run) (i : ℕ) → afterSteps (moment run i) (drop i (run .steps)) ≡ last run
@@ -68,7 +79,7 @@ to-last run i =
 grows-moment : (run : Run) (i : ℕ) → Grows (bookOf (moment run i)) (bookOf (last run))
 grows-moment run i =
     subst (λ (r : Register). Grows (bookOf (moment run i)) (bookOf r)) (to-last run i)
-    (safe-after (drop i (run .steps)) (moment run i) (safe-moment run i) .1)
+    (onward-after (drop i (run .steps)) (moment run i) (safe-moment run i) .grows)
 
 -- a block other than genesis whose chain is notarised has been made
 notarised-le : {r : Book} (q e : ℕ) → Safe r → 0 < e → chainNotarised r q e ≡ true → e ≤ r .last .0

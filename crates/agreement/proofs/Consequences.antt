@@ -2,7 +2,7 @@
 use Prim.Native.Nat.{ℕ, zero, suc, _+_, _-_, _<_, _≤_}
 use mathlib.Core.Path.{_≡_, sym, ap, _∙_, subst, subst⁻¹}
 use mathlib.Core.Bool.{true}
-use mathlib.Core.List.{List, [], _∷_}
+use mathlib.Core.List.{[], _∷_}
 use mathlib.Core.Logic.{_⊎_, inl, inr}
 use native.Mathlib.Decide.{decLe}
 use native.Mathlib.Omega.{arith}
@@ -17,12 +17,12 @@ use Rattle.register.specs.Tables.{finalOf}
 use Rattle.register.specs.Chains.{chainNotarised}
 use Rattle.register.specs.Steps.{stepRule}
 use Rattle.register.proofs.Chains.{genesis-notarised, notarised-parent}
-use Rattle.register.proofs.Growth.{Grows}
+use Rattle.register.proofs.Growth.{trusted-kept}
 use Rattle.register.proofs.Running.{after-append}
 use Rattle.register.specs.Runs.{afterSteps, ran, Run, opened, moment}
-use Rattle.agreement.specs.Claim.{chainOf, finalChain, Trusted, Notarised, Begins, Agreement, NeverPart, CallsAreMoments, BatchesAreMoments, OnlyAdded}
-use Rattle.agreement.proofs.Safety.{Finalised, genesis, middle, Safe}
-use Rattle.agreement.proofs.Agreement.{safe-after, safe-moment, agreement}
+use Rattle.agreement.specs.Claim.{chainOf, finalChain, Trusted, Notarised, Begins, Agreement, NeverPart, NeverBack, CallsAreMoments, BatchesAreMoments, OnlyAdded}
+use Rattle.agreement.proofs.Safety.{Finalised, genesis, middle}
+use Rattle.agreement.proofs.Agreement.{Onward, onward-after, safe-moment, agreement}
 
 -- a final chain is notarised in its office's view
 final-notarised : {r : Book} {p c : ℕ} → Finalised r p c → chainNotarised r p c ≡ true
@@ -72,17 +72,24 @@ batches-are-moments run i k =
     sym (after-append (opened run) (take i (run .steps)) (take k (drop i (run .steps))))
     ∙ ap (afterSteps (opened run)) (sym (take-add i k (run .steps)))
 
--- a batch from a moment lets the book grow
-batch-grows : (r : Register) (steps : List Step) → Safe (bookOf r) → Grows (bookOf r) (bookOf (ran r steps .register))
-unfolding ran
-batch-grows r steps safe = safe-after steps r safe .1
-
-pub only-added : OnlyAdded
-unfolding OnlyAdded BatchesAreMoments bookOf
-only-added run i j before =
+-- what steps make of a book they make of it from every moment to every later one
+onward : (run : Run) (i j : ℕ) → i ≤ j → Onward (bookOf (moment run i)) (bookOf (moment run j))
+unfolding BatchesAreMoments ran
+onward run i j before =
     let k : ℕ = j - i in
     let later : moment run (i + k) ≡ moment run j = ap (moment run) (omega arith) in
-    let g : Grows (bookOf (moment run i)) (bookOf (moment run j)) =
-    subst (λ (r : Register). Grows (bookOf (moment run i)) (bookOf r)) (batches-are-moments run i k ∙ later)
-    (batch-grows (moment run i) (take k (drop i (run .steps))) (safe-moment run i)) in
+    subst (λ (r : Register). Onward (bookOf (moment run i)) (bookOf r)) (batches-are-moments run i k ∙ later)
+    (onward-after (take k (drop i (run .steps))) (moment run i) (safe-moment run i))
+
+pub only-added : OnlyAdded
+unfolding OnlyAdded bookOf
+only-added run i j before =
+    let g = onward run i j before .grows in
     record { last = g .last; blocks = g .blocks; count = g .count; messages = g .messages }
+
+-- a final chain never gets shorter, and the shorter of two begins the longer
+pub never-back : NeverBack
+unfolding NeverBack Trusted finalChain
+never-back run i j p before t =
+    let on = onward run i j before in
+    shorter-begins run i j p p t (trusted-kept (on .grows) (p .0) ∙ t) (on .forward (p .0) t)

@@ -1,8 +1,8 @@
--- A run with a fork and a bad leader, of which the premises of agreement hold: the claim speaks of it, and says something. All that is told of it is
--- computed from the rules.
+-- A run with a fork and a bad leader, of which the premises of the claims hold: they speak of it, and say something. All that is told of it is computed
+-- from the rules.
 use Prim.Native.Nat.{ℕ}
 use mathlib.Core.Path.{_≡_, refl}
-use mathlib.Core.List.{List, [], _∷_, map}
+use mathlib.Core.List.{List, [], _∷_, _++_, map}
 use native.Mathlib.Omega.{arith}
 use lib.ListN.{replicate}
 use Rattle.words.specs.Tests.{choose, both, either, between, conj, all, any, lowest, every, member}
@@ -28,8 +28,9 @@ use Rattle.register.specs.Opening.{leaderTable, blank, freshBook, fresh, openin
 use Rattle.register.specs.Effects.{withBlock, withNamed, sentStage, withSent, withMoved, withActed, withState, withNextEpoch}
 use Rattle.register.specs.Steps.{ruleOf, refusal, judged, bookRule, stepRule}
 use Rattle.register.specs.Runs.{afterSteps, answers, Run, opened, moment}
-use Rattle.agreement.specs.Claim.{chainOf, finalChain, Trusted, Notarised, Begins, AtLeastAsLong, Agreement}
+use Rattle.agreement.specs.Claim.{chainOf, finalChain, Trusted, Notarised, Begins, AtLeastAsLong, Agreement, NeverBack}
 use Rattle.agreement.proofs.Agreement.{agreement}
+use Rattle.agreement.proofs.Consequences.{never-back}
 
 abbrev message : ℕ → Message
 message m = record { 0 = m }
@@ -90,22 +91,36 @@ fork-steps =
     ∷ Step.Deliver (message 13) (office 2)
     ∷ Step.Register (office 2) (message 13)
     ∷ Step.Finalise (office 2) (block 5)
+    ∷ Step.Advance
+    -- epoch 5: office 1 proposes block 6 on block 5; offices 2 and 3 vote for it, and office 2 sees it notarised
+    ∷ Step.Propose (office 1) (block 5) 6
+    ∷ Step.Deliver (message 14) (office 2)
+    ∷ Step.Vote (office 2) (message 14)
+    ∷ Step.BadSend (office 3) Kind.Vote (office 3) (block 6)
+    ∷ Step.Deliver (message 16) (office 2)
+    ∷ Step.Register (office 2) (message 16)
+    -- moment 54: office 2 makes block 5 final; naming the older three again is refused, and naming the newest again is not
+    ∷ Step.Finalise (office 2) (block 6)
+    ∷ Step.Finalise (office 2) (block 5)
+    ∷ Step.Finalise (office 2) (block 6)
     ∷ []
 
--- four offices, of which office 3 is not trusted, and four epochs, led by 3, 2, 1 and 2
-pub fork-opens : opening 4 7 (3 ∷ 2 ∷ 1 ∷ 2 ∷ []) .refusal ≡ 0
+-- four offices, of which office 3 is not trusted, and five epochs, led by 3, 2, 1, 2 and 1
+pub fork-opens : opening 4 7 (3 ∷ 2 ∷ 1 ∷ 2 ∷ 1 ∷ []) .refusal ≡ 0
 unfolding opening openingRefusal first choose both either between any stray tooMany untrusted tally weigh unit digit
 fork-opens = refl
 
 unfoldable pub fork : Run
-fork = record { n = 4; trust = 7; schedule = 3 ∷ 2 ∷ 1 ∷ 2 ∷ []; accepted = fork-opens; steps = fork-steps }
+fork = record { n = 4; trust = 7; schedule = 3 ∷ 2 ∷ 1 ∷ 2 ∷ 1 ∷ []; accepted = fork-opens; steps = fork-steps }
 
--- what the run shows: every step is accepted; at the end office 2's final chain is that of block 4; before, at moment 41, the longer chain of block 5
--- is notarised in office 1's view; and at the end the chain of block 1, which forks off from both, is notarised in office 0's
+-- what the run shows: every step is accepted but the one that would go back, which gets 32; at moment 46 office 2's final chain is that of block 4, and
+-- at the end that of block 5; before, at moment 41, the longer chain of block 5 is notarised in office 1's view; and at moment 46 the chain of block 1,
+-- which forks off from both, is notarised in office 0's
 pub record Forked : Type 0 where
-  pub accepted : map (λ (s : Stepped). s .refusal) (answers (opened fork) (fork .steps)) ≡ replicate 46 0
+  pub refusals : map (λ (s : Stepped). s .refusal) (answers (opened fork) (fork .steps)) ≡ replicate 54 0 ++ (32 ∷ 0 ∷ [])
   pub finalist : Trusted (moment fork 46) (office 2)
   pub final : finalChain (moment fork 46) (office 2) ≡ 4 ∷ 3 ∷ []
+  pub later : finalChain (moment fork 56) (office 2) ≡ 5 ∷ 4 ∷ 3 ∷ []
   pub viewer : Trusted (moment fork 41) (office 1)
   pub notarised : Notarised (moment fork 41) (office 1) (block 5)
   pub longer : chainOf (moment fork 41) (block 5) ≡ 5 ∷ 4 ∷ 3 ∷ []
@@ -118,9 +133,10 @@ pub fork-shows : Forked
 unfolding finalChain chainOf Trusted Notarised moment fork fork-steps answers afterSteps stepRule bookOf registerOf opened opening fresh openingRefusal untrusted tooMany stray choose both either between conj all any lowest every tally weigh unit digit fill withMember withStage first enough trustedIn madeIn parentIn epochIn matchesIn namedIn saysIn climb chainBy isVote stage signed notarised chain chainNotarised longest countsFit blockFits messageFits stateFits fit finalises leaderTable blank freshBook withBlock withNamed sentStage withSent withMoved withActed withState withNextEpoch ruleOf refusal judged bookRule
 fork-shows =
     record {
-      accepted = refl;
+      refusals = refl;
       finalist = refl;
       final = refl;
+      later = refl;
       viewer = refl;
       notarised = refl;
       longer = refl;
@@ -148,3 +164,8 @@ fork-agrees = rw (fork-shows .final, fork-shows .longer) at (agreement fork 46 4
 pub fork-parts : Begins (finalChain (moment fork 46) (office 2)) (chainOf (moment fork 46) (block 1)) → ⊥
 unfolding Begins begins member either
 fork-parts = rw (fork-shows .final, fork-shows .shorter) (λ b. let never : _≡_ {A = ℕ} 0 1 = cc in omega arith)
+
+-- And office 2's final chain never goes back: that of moment 46 begins that of moment 56.
+pub fork-goes-on : Begins (4 ∷ 3 ∷ []) (5 ∷ 4 ∷ 3 ∷ [])
+unfolding NeverBack
+fork-goes-on = rw (fork-shows .final, fork-shows .later) at (never-back fork 46 56 (office 2) (omega arith) (fork-shows .finalist))

@@ -14,7 +14,7 @@ use Rattle.register.proofs.Accepted.{trusted-below}
 use Rattle.register.proofs.Chains.{parent-le}
 use Rattle.register.proofs.Ranges.{Ranges}
 use Rattle.register.proofs.Growth.{Grows, trusted-kept, parent-kept, epoch-kept, length-kept, chain-notarised-kept, consecutive-kept}
-use Rattle.agreement.proofs.Safety.{Signature, Vouched, Before, Ordered, same, before, after, Finalised, genesis, middle, Safe, Signing, News, Clock, still, later, Lawful, signed-le, longest-notarised, longest-most}
+use Rattle.agreement.proofs.Safety.{Signature, Vouched, Before, Ordered, same, before, after, Finalised, genesis, middle, Safe, NewFinal, Signing, News, Clock, still, later, Lawful, signed-le, longest-notarised, longest-most}
 
 module _ {r s : Book} (safe : Safe r) (ranges : Ranges s) (step : Lawful r s) where
   -- a signature of the history after the step: an old one, or a trusted office signs now, by the newest message
@@ -134,10 +134,9 @@ module _ {r s : Book} (safe : Safe r) (ranges : Ranges s) (step : Lawful r s) wh
   finalised-old (genesis e) = genesis e
   finalised-old (middle b d l t) = middle b d (omega (arith, step .grows .last)) (consecutive-kept (step .grows) l t)
 
-  final-all : (p : ℕ) → Finalised r p (finalOf r p) → (finalOf s p ≡ finalOf r p) ⊎ Finalised s p (finalOf s p)
-      → Finalised s p (finalOf s p)
+  final-all : (p : ℕ) → Finalised r p (finalOf r p) → (finalOf s p ≡ finalOf r p) ⊎ NewFinal r s p → Finalised s p (finalOf s p)
   final-all p f (inl e) = subst⁻¹ (Finalised s p) e (finalised-old f)
-  final-all p f (inr n) = n
+  final-all p f (inr n) = n .final
 
   pub safe-step : Safe s
   safe-step =
@@ -153,3 +152,13 @@ module _ {r s : Book} (safe : Safe r) (ranges : Ranges s) (step : Lawful r s) wh
             ordered-all h x y (was h t) sx sy (classified h x (was h t) sx) (classified h y (was h t) sy);
         final = λ p t. final-all p (safe .final p (was p t)) (step .finals p (was p t));
       }
+
+  -- no trusted office's final chain gets shorter
+  pub forward-step : (p : ℕ) → trusted r p ≡ true → chainLength r (finalOf r p) ≤ chainLength s (finalOf s p)
+  forward-step p t = by (step .finals p t)
+    where
+      by : (finalOf s p ≡ finalOf r p) ⊎ NewFinal r s p → chainLength r (finalOf r p) ≤ chainLength s (finalOf s p)
+      by (inl e) =
+          let made : finalOf r p ≤ r .last .0 = safe .ranges .finals p (trusted-below r p t) t in
+          omega (arith, length-kept (step .grows) (finalOf r p) made, ap (chainLength s) e)
+      by (inr n) = n .forward

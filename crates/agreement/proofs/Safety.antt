@@ -74,13 +74,18 @@ pub data Clock (r s : Book) : Type 0 where
   still : s .epoch .0 ≡ r .epoch .0 → ((h : ℕ) → h < 32 → acted r h ≡ true → acted s h ≡ true) → Clock r s
   later : r .epoch .0 < s .epoch .0 → Clock r s
 
--- what a step may do, as far as agreement depends on it
+-- office p has a new final block: it became final as it should, and its chain is not shorter than that of the one before
+pub record NewFinal (r s : Book) (p : ℕ) : Type 0 where
+  pub final : Finalised s p (finalOf s p)
+  pub forward : chainLength r (finalOf r p) ≤ chainLength s (finalOf s p)
+
+-- what a step may do, as far as the claims depend on it
 pub record Lawful (r s : Book) : Type 0 where
   pub grows : Grows r s
   pub clock : Clock r s
   pub one : s .count ≤ r .count + 1
   pub news : (m : ℕ) → m < s .count → (m < r .count) ⊎ News r s (signerOf s m) (aboutOf s m)
-  pub finals : (p : ℕ) → trusted r p ≡ true → (finalOf s p ≡ finalOf r p) ⊎ Finalised s p (finalOf s p)
+  pub finals : (p : ℕ) → trusted r p ≡ true → (finalOf s p ≡ finalOf r p) ⊎ NewFinal r s p
 
 -- a message of the history that says so is a signature
 pub signature : (r : Book) (h x m : ℕ) → m < r .count → says r h x m ≡ true → Signature r h x

@@ -26,7 +26,7 @@ use Rattle.register.specs.declared.book.Book.{Book}
 use Rattle.register.specs.Books.{block}
 use Rattle.register.specs.Tables.{Content, trusted, acted, parentOf, epochOf, named, signerOf, aboutOf, finalOf, isVote}
 use Rattle.register.specs.Views.{says}
-use Rattle.register.specs.Chains.{longest}
+use Rattle.register.specs.Chains.{chain, chainLength, longest}
 use Rattle.register.specs.Refusals.{inHistory}
 use Rattle.register.specs.Effects.{withBlock, withNamed, withSent, withMoved, withActed, withState, withNextEpoch}
 use Rattle.register.specs.Steps.{propose, vote, finalise, badSend, ruleOf, bookRule}
@@ -39,7 +39,7 @@ use Rattle.register.proofs.Chains.{parent-le}
 use Rattle.register.proofs.Ranges.{Ranges}
 use Rattle.register.proofs.Growth.{Grows, grows-refl, consecutive-kept}
 use Rattle.register.proofs.Growing.{grows-state, grows-step}
-use Rattle.agreement.proofs.Safety.{Signature, Finalised, genesis, middle, Signing, News, still, later, Lawful, signature}
+use Rattle.agreement.proofs.Safety.{Signature, Finalised, middle, Signing, News, NewFinal, still, later, Lawful, signature}
 
 -- a step that is refused changes nothing
 lawful-refl : (r : Book) → Lawful r r
@@ -172,9 +172,10 @@ lawful-vote r office message z a grows =
 
 -- one office's final block changes, and the others' stay
 finals-after : (r : Book) (q c p : ℕ) (state : OfficeState) → state .finalised .0 ≡ c → Finalised (withState r q state) q c
-    → (finalOf (withState r q state) p ≡ finalOf r p) ⊎ Finalised (withState r q state) p (finalOf (withState r q state) p)
-unfolding withState
-finals-after r q c p state is three = by (ℕ-discrete p q) (decLt q (length (r .offices)))
+    → chainLength r (finalOf r q) ≤ chainLength r c
+    → (finalOf (withState r q state) p ≡ finalOf r p) ⊎ NewFinal r (withState r q state) p
+unfolding withState chain
+finals-after r q c p state is three forward = by (ℕ-discrete p q) (decLt q (length (r .offices)))
   where
     end : Book
     end = withState r q state
@@ -182,16 +183,21 @@ finals-after r q c p state is three = by (ℕ-discrete p q) (decLt q (length (r 
     final : OfficeState → ℕ
     final s = s .finalised .0
 
-    by : Dec (p ≡ q) → Dec (q < length (r .offices)) → (finalOf end p ≡ finalOf r p) ⊎ Finalised end p (finalOf end p)
-    by (yes e) (yes h) =
-        let now : finalOf end q ≡ c = ap (λ (s : OfficeState). s .finalised .0) (getD-set-same (r .offices) q state _ h) ∙ is in
-        inr (subst⁻¹ (λ (x : ℕ). Finalised end x (finalOf end x)) e (subst⁻¹ (Finalised end q) now three))
+    own : q < length (r .offices) → NewFinal r end q
+    own h =
+        let now : finalOf end q ≡ c = ap final (getD-set-same (r .offices) q state _ h) ∙ is in
+        record {
+          final = subst⁻¹ (Finalised end q) now three;
+          forward = subst⁻¹ (λ (x : ℕ). chainLength r (finalOf r q) ≤ chainLength end x) now forward;
+        }
+
+    by : Dec (p ≡ q) → Dec (q < length (r .offices)) → (finalOf end p ≡ finalOf r p) ⊎ NewFinal r end p
+    by (yes e) (yes h) = inr (subst⁻¹ (NewFinal r end) e (own h))
     by (yes e) (no h) =
-        let none : finalOf end q ≡ 0 =
-        ap (λ (s : OfficeState). s .finalised .0)
-        (List·getD-eq-default (set (r .offices) q state) _ (omega (arith, length-set (r .offices) q state))) in
-        inr (genesis (ap (finalOf end) e ∙ none))
-    by (no d) h = inl (ap (λ (s : OfficeState). s .finalised .0) (getD-set-other (r .offices) q p state _ d))
+        inl
+        (ap final (List·getD-eq-default (set (r .offices) q state) _ (omega (arith, length-set (r .offices) q state)))
+        ∙ sym (ap final (List·getD-eq-default (r .offices) _ (omega arith))))
+    by (no d) h = inl (ap final (getD-set-other (r .offices) q p state _ d))
 
 lawful-finalise : (r : Book) (office : Office) (newest : Block) → Accepted r (Step.Finalise office newest)
     → Grows r (finalise r office newest .effect) → Lawful r (finalise r office newest .effect)
@@ -204,7 +210,7 @@ lawful-finalise r office newest a grows =
       news = λ x l. inl l;
       finals = λ p t.
           finals-after r (office .0) (parentOf r (newest .0)) p _ refl
-          (middle (newest .0) _ (a .block) (consecutive-kept (grows-state r (office .0) _) (a .block) (a .three)));
+          (middle (newest .0) _ (a .block) (consecutive-kept (grows-state r (office .0) _) (a .block) (a .three))) (a .forward);
     }
 
 -- a message of the history is a signature

@@ -61,12 +61,20 @@ NeverPart =
     → Begins (finalChain (moment run i) p) (finalChain (moment run j) q)
     ⊎ Begins (finalChain (moment run j) q) (finalChain (moment run i) p)
 
+-- NEVER BACK. In every run, a trusted office's final chain at any moment begins its final chain at every later moment.
+unfoldable pub NeverBack : Type 0
+NeverBack =
+    (run : Run) (i j : ℕ) (p : Office)
+    → i ≤ j
+    → Trusted (moment run i) p
+    → Begins (finalChain (moment run i) p) (finalChain (moment run j) p)
+
 -- registers as calls hand them on: the first is what the opening gave, and each next one is what a step gave back for the register before it
 pub record HandedOn (run : Run) (given : ℕ → Register) : Type 0 where
   pub first : given 0 ≡ opened run
   pub next : (i : ℕ) → i < length (run .steps) → given (suc i) ≡ stepRule (given i) (getD (run .steps) i Step.Advance) .register
 
--- Registers that calls hand on are the moments, so that the claim is one about what the calls give back.
+-- Registers that calls hand on are the moments, so that the claims are about what the calls give back.
 unfoldable pub CallsAreMoments : Type 0
 CallsAreMoments = (run : Run) (given : ℕ → Register) → HandedOn run given → (i : ℕ) → i ≤ length (run .steps) → given i ≡ moment run i
 

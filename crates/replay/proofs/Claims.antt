@@ -1,4 +1,4 @@
--- The claims of specs/Claims: a log without a fault is a run that it reads as, and its final chains agree.
+-- The claims of specs/Claims: a log without a fault is a run that it reads as, and its final chains agree and never go back.
 use Prim.Native.Nat.{ℕ, zero, suc}
 use mathlib.Core.Path.{_≡_, refl, _∙_}
 use mathlib.Core.List.{List}
@@ -6,13 +6,14 @@ use lib.Dec.{eqb, eqb·suc-zero}
 use Rattle.words.specs.Tests.{choose}
 use Rattle.register.specs.Opening.{opening}
 use Rattle.register.specs.Runs.{opened, moment}
-use Rattle.agreement.specs.Claim.{Agreement}
+use Rattle.agreement.specs.Claim.{Agreement, NeverBack}
 use Rattle.agreement.proofs.Agreement.{agreement}
+use Rattle.agreement.proofs.Consequences.{never-back}
 use Rattle.packed_log.specs.Openings.{openingIn}
 use Rattle.packed_log.proofs.OpeningsReadBack.{opening-opens}
 use Rattle.replay.specs.Bodies.{bodyOf, faultOf}
 use Rattle.replay.proofs.BodyLaws.{reads-body, body-reads}
-use Rattle.replay.specs.Claims.{caseOf, RunOf, LogsAreRuns, ReadsHaveNoFault, placeIn, LogsAgree}
+use Rattle.replay.specs.Claims.{caseOf, RunOf, LogsAreRuns, ReadsHaveNoFault, placeIn, LogsAgree, LogsNeverGoBack}
 
 -- where neither the opening nor what stands behind it is refused, the opening is not
 none-first : (opening body : ℕ) → choose (eqb opening 0) body opening ≡ 0 → opening ≡ 0
@@ -52,3 +53,10 @@ logs-agree log reads i j p q e =
     rw (place-moment log held i, place-moment log held j)
     (λ finalist viewer notarised long.
     agreement (held .run) i j p q e (record { finalist = finalist; viewer = viewer; notarised = notarised; long = long }))
+
+-- and never go back from one place to a later one
+pub logs-never-go-back : LogsNeverGoBack
+unfolding LogsNeverGoBack LogsAreRuns NeverBack
+logs-never-go-back log reads i j p before =
+    let held : RunOf log = logs-are-runs log reads in
+    rw (place-moment log held i, place-moment log held j) (never-back (held .run) i j p before)

@@ -1,4 +1,4 @@
--- What is claimed of logs: one has no fault exactly when it reads as an opening with steps; then it is a run, and its final chains agree.
+-- What is claimed of logs: one has no fault exactly when it reads as an opening with steps; then it is a run, its final chains agree and never go back.
 use Prim.Native.Nat.{ℕ, _≤_}
 use mathlib.Core.Path.{_≡_}
 use mathlib.Core.List.{List}
@@ -46,3 +46,12 @@ LogsAgree =
     → Notarised (placeIn log j) q e
     → length (finalChain (placeIn log i) p) ≤ length (chainOf (placeIn log j) e)
     → Begins (finalChain (placeIn log i) p) (chainOf (placeIn log j) e)
+
+-- Of every log that reads: a trusted office's final chain at any place of it begins its final chain at every later place.
+unfoldable pub LogsNeverGoBack : Type 0
+LogsNeverGoBack =
+    (log : List ℕ) → faultOf log ≡ 0
+    → (i j : ℕ) (p : Office)
+    → i ≤ j
+    → Trusted (placeIn log i) p
+    → Begins (finalChain (placeIn log i) p) (finalChain (placeIn log j) p)
