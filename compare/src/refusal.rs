@@ -38,10 +38,11 @@ pub enum Refusal {
     LongLog = 30,
     /// Never given here: logs are written into memory that grows.
     ShortBuffer = 31,
+    Behind = 32,
 }
 
 /// Word and meaning of the refusals, from number 1 up.
-const TABLE: [(&str, &str); 31] = [
+const TABLE: [(&str, &str); 32] = [
     ("count", "n not 1 to 32"),
     ("schedule", "length not 1 to 256"),
     ("stray leader", "a leader is n or above"),
@@ -85,6 +86,10 @@ const TABLE: [(&str, &str); 31] = [
     ("ending", "a pad bit set, or bytes after the pad"),
     ("long log", "over 65,536 bytes"),
     ("short buffer", "writer's buffer ends too early"),
+    (
+        "behind",
+        "final chain would be shorter than the present one",
+    ),
 ];
 
 impl Refusal {

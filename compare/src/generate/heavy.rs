@@ -49,7 +49,7 @@ pub fn rows() -> Vec<Row> {
         row("proposals on a fork", fork::proposals(), PROPOSE, &[25], 80),
         row("the growing of a fork", fork::growing(), ANY, &[0], 100),
         row("finalise, two offices", chain::two_offices_finalise(), FINALISE, &[0], 85),
-        row("finalise, 100 blocks apart", chain::finalise_far_apart(), FINALISE, &[0], 85),
+        row("finalise, 100 blocks apart", chain::finalise_far_apart(), FINALISE, &[0, 32], 85),
         row("finalise, crowded blocks", crowded::finalise(), FINALISE, &[21], 85),
         row("registers refused with 18", tables::registers(), REGISTER, &[18], 90),
         row("bad sends refused with 22", tables::bad_sends(), BAD_SEND, &[22], 95),

@@ -120,9 +120,10 @@ impl Register {
         Ok(vote)
     }
 
-    /// [5 6 7 10 21]: b, its parent c and c's parent d are not genesis, their
+    /// [5 6 7 10 21 32]: b, its parent c and c's parent d are not genesis, their
     /// epochs are k+2, k+1, k, and b's chain is notarised in the view; the
-    /// final block becomes c.
+    /// final block becomes c, whose chain may not be shorter than the present
+    /// final chain.
     pub fn finalise(&mut self, office: Office, b: Block) -> Result<Block, Refusal> {
         self.check_office(office)?;
         self.check_block(b)?;
@@ -134,6 +135,9 @@ impl Register {
         let in_a_row = self.block(c).epoch == Epoch(k + 1) && self.block(b).epoch == Epoch(k + 2);
         ensure(in_a_row, Refusal::NotFinal)?;
         ensure(self.view(office).is_notarised_chain(b), Refusal::NotFinal)?;
+        let present = self.final_block(office);
+        let behind = self.chain_length(c) < self.chain_length(present);
+        ensure(!behind, Refusal::Behind)?;
 
         self.local[office.index()].final_block = c;
         Ok(c)

@@ -21,7 +21,7 @@ const OUTCOMES: [&[u8]; 9] = [
     // Register
     &[0, 6, 8, 10, 15, 16, 18],
     // Finalise
-    &[0, 6, 7, 10, 21],
+    &[0, 6, 7, 10, 21, 32],
     // Deliver
     &[0, 6, 8, 23],
     // Bad send

@@ -92,6 +92,7 @@ fn numbers_and_words() {
         (Refusal::Spent, 24, "spent"),
         (Refusal::Ending, 29, "ending"),
         (Refusal::ShortBuffer, 31, "short buffer"),
+        (Refusal::Behind, 32, "behind"),
     ];
     for (refusal, number, word) in words {
         assert_eq!((refusal.number(), refusal.word()), (number, word));

@@ -74,7 +74,8 @@ pub fn two_offices_finalise() -> Run {
     run
 }
 
-/// One office finalises the tip and a block a hundred blocks before it in turn.
+/// One office names the tip and a block a hundred blocks before it in turn. The
+/// second is refused with 32 each time: the final chain would be shorter.
 pub fn finalise_far_apart() -> Run {
     let blocks = [TIP, Block(TIP.0 - 100)];
     let mut run = long_chain(Office(0));

@@ -10,6 +10,7 @@ pub fn cases() -> Vec<Case> {
         bad_sends(),
         untrusted_inbox(),
         finalising(),
+        own_final_chain(),
         whole_chain(),
         inbox_and_marks(),
         values(),
@@ -166,13 +167,54 @@ fn finalising() -> Vec<Case> {
             "office 0 3 3",
         ),
         case(
-            "finalise goes back, in a later epoch and unacted",
+            "finalise doesn't go back, in a later epoch and unacted",
             ONE,
             &format!("{steps}; finalise 0 4; advance; finalise 0 3"),
-            &format!("{lines}, 8 0 3, 9 0 5, 10 0 2"),
-            "office 0 2 2",
+            &format!("{lines}, 8 0 3, 9 0 5, 10 32 0"),
+            "office 0 3 3",
+        ),
+        case(
+            "32 asks for the parent's chain, not for that of the block named",
+            ONE,
+            &format!("{steps}; finalise 0 4; finalise 0 3; finalise 0 4"),
+            &format!("{lines}, 8 0 3, 9 32 0, 10 0 3"),
+            "office 0 3 3",
         ),
     ]
+}
+
+/// Offices 0 and 1 see four blocks of epochs 1 to 4 notarised. What is final for
+/// one of them doesn't bind the other.
+fn own_final_chain() -> Vec<Case> {
+    let mut script = Script::default();
+    for block in 1..=4 {
+        good_leaders_epoch(&mut script, block);
+    }
+    script.take("finalise 1 4", "0 3");
+    script.take("finalise 0 3", "0 2");
+    script.take("finalise 1 3", "32 0");
+    script.take("finalise 0 3", "0 2");
+    script.take("finalise 0 4", "0 3");
+    script.take("finalise 0 3", "32 0");
+    vec![case(
+        "32 looks at the office's own final chain",
+        "offices 3; trusted 0 1 2; leaders 0 0 0 0 0",
+        &script.steps(),
+        &script.lines(),
+        "office 0 3 3, office 1 3 3, office 2 0 0",
+    )]
+}
+
+/// Office 0 proposes a block, office 1 votes for it, and office 0 gets the vote.
+fn good_leaders_epoch(script: &mut Script, block: usize) {
+    let [proposal, vote] = [2, 1].map(|back| 2 * block - back);
+    let mut take = |step: String, value: usize| script.take(&step, &format!("0 {value}"));
+    take(format!("propose 0 {} 0", block - 1), proposal);
+    take(format!("deliver {proposal} 1"), proposal);
+    take(format!("vote 1 {proposal}"), vote);
+    take(format!("deliver {vote} 0"), vote);
+    take(format!("register 0 {vote}"), vote);
+    take("advance".to_string(), block + 1);
 }
 
 /// Four blocks of epochs 1 to 4 by a bad leader, voted for by offices 1 and 2.
