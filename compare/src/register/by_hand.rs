@@ -89,3 +89,70 @@ fn a_proposal_on_a_block_of_its_own_epoch() {
     assert_eq!(register.advance(), Ok(Epoch(2)));
     assert!(register.propose(Office(0), Block(1), 7).is_ok());
 }
+
+/// The signatures of offices 0 and 1 on the blocks from 1 up to this one.
+fn signed_up_to(last: u8) -> Vec<(u8, u8)> {
+    (1..=last)
+        .flat_map(|block| [(0, block), (1, block)])
+        .collect()
+}
+
+/// Two chains that part at genesis: blocks 1 to 4, of epochs 1 to 4, and blocks
+/// 5 to 7, of epochs 5 to 7. The shorter one has the higher numbers.
+fn lower_and_longer(messages: &[(u8, u8)]) -> Register {
+    let blocks = [(0, 1), (1, 2), (2, 3), (3, 4), (0, 5), (5, 6), (6, 7)];
+    made(&blocks, messages)
+}
+
+#[test]
+fn a_final_chain_as_long_through_another_block() {
+    // Blocks 1 to 3 and 4 to 6 are two chains that part at genesis.
+    let blocks = [(0, 1), (1, 2), (2, 3), (0, 4), (4, 5), (5, 6)];
+    let mut register = made(&blocks, &signed_up_to(6));
+    for (b, c) in [(3, 2), (6, 5), (6, 5), (3, 2)] {
+        assert_eq!(register.finalise(Office(0), Block(b)), Ok(Block(c)));
+        assert_eq!(register.final_block(Office(0)), Block(c));
+    }
+}
+
+#[test]
+fn the_same_final_block_through_another_child() {
+    // Blocks 3 and 4 both stand on block 2 and are of one epoch.
+    let blocks = [(0, 1), (1, 2), (2, 3), (2, 3)];
+    let mut register = made(&blocks, &signed_up_to(4));
+    for b in [3, 4, 3] {
+        assert_eq!(register.finalise(Office(0), Block(b)), Ok(Block(2)));
+    }
+}
+
+#[test]
+fn a_shorter_chain_of_higher_blocks_is_behind() {
+    let mut register = lower_and_longer(&signed_up_to(7));
+    assert_eq!(register.finalise(Office(0), Block(4)), Ok(Block(3)));
+    let before = register.clone();
+    let refused = Err(Refusal::Behind);
+    assert_eq!(register.finalise(Office(0), Block(7)), refused);
+    assert_eq!(register.finalise(Office(0), Block(3)), refused);
+    assert_eq!(register, before);
+}
+
+#[test]
+fn a_longer_chain_of_lower_blocks_is_not_behind() {
+    let mut register = lower_and_longer(&signed_up_to(7));
+    assert_eq!(register.finalise(Office(0), Block(7)), Ok(Block(6)));
+    // As long as the present chain, then longer.
+    assert_eq!(register.finalise(Office(0), Block(3)), Ok(Block(2)));
+    assert_eq!(register.finalise(Office(0), Block(7)), Ok(Block(6)));
+    assert_eq!(register.finalise(Office(0), Block(4)), Ok(Block(3)));
+    assert_eq!(register.final_block(Office(0)), Block(3));
+}
+
+#[test]
+fn not_final_before_behind() {
+    // The shorter chain is behind, but its last block isn't signed.
+    let mut register = lower_and_longer(&signed_up_to(6));
+    assert_eq!(register.finalise(Office(0), Block(4)), Ok(Block(3)));
+    let refused = Err(Refusal::NotFinal);
+    assert_eq!(register.finalise(Office(0), Block(7)), refused);
+    assert_eq!(register.final_block(Office(0)), Block(3));
+}

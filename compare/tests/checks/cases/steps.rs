@@ -407,4 +407,41 @@ const ALONE: &[Row] = &[
         "1 0 0, 2 0 2, 3 0 1, 4 0 3, 5 21 0",
         "office 0 0 0",
     ),
+    (
+        "finalise 32, older runs of three, then the same run again",
+        "propose 0 0 1; advance; propose 0 1 2; advance; propose 0 2 3; advance; propose 0 3 4; \
+             advance; propose 0 4 5; finalise 0 5; finalise 0 4; finalise 0 3; finalise 0 5",
+        "1 0 0, 2 0 2, 3 0 1, 4 0 3, 5 0 2, 6 0 4, 7 0 3, 8 0 5, 9 0 4, 10 0 4, 11 32 0, \
+             12 32 0, 13 0 4",
+        "office 0 4 4",
+    ),
+    (
+        "finalise 32, not while genesis is final, nor for a longer chain",
+        "propose 0 0 1; advance; propose 0 1 2; advance; propose 0 2 3; advance; propose 0 3 4; \
+             finalise 0 3; finalise 0 4; finalise 0 3; advance; propose 0 4 5; finalise 0 5",
+        "1 0 0, 2 0 2, 3 0 1, 4 0 3, 5 0 2, 6 0 4, 7 0 3, 8 0 2, 9 0 3, 10 32 0, 11 0 5, \
+             12 0 4, 13 0 4",
+        "office 0 4 4",
+    ),
+    (
+        "finalise 21, before 32, genesis among the three",
+        "propose 0 0 1; advance; propose 0 1 2; advance; propose 0 2 3; advance; propose 0 3 4; \
+             finalise 0 4; finalise 0 2; finalise 0 1; finalise 0 0",
+        "1 0 0, 2 0 2, 3 0 1, 4 0 3, 5 0 2, 6 0 4, 7 0 3, 8 0 3, 9 21 0, 10 21 0, 11 21 0",
+        "office 0 3 3",
+    ),
+    (
+        "finalise 21, before 32, a gap between d and c",
+        "propose 0 0 1; advance; advance; propose 0 1 2; advance; propose 0 2 3; \
+             advance; propose 0 3 4; finalise 0 4; finalise 0 3",
+        "1 0 0, 2 0 2, 3 0 3, 4 0 1, 5 0 4, 6 0 2, 7 0 5, 8 0 3, 9 0 3, 10 21 0",
+        "office 0 3 3",
+    ),
+    (
+        "finalise 21, before 32, b not notarised",
+        "propose 0 0 1; advance; propose 0 1 2; advance; propose 0 2 3; advance; propose 0 3 4; \
+             draft 2 3 9; finalise 0 4; finalise 0 5; finalise 0 3",
+        "1 0 0, 2 0 2, 3 0 1, 4 0 3, 5 0 2, 6 0 4, 7 0 3, 8 0 5, 9 0 3, 10 21 0, 11 32 0",
+        "office 0 3 3",
+    ),
 ];
