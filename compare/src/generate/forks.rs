@@ -4,7 +4,7 @@ use super::noise;
 use super::openings::opening_with_bad;
 use super::random::Random;
 use super::run::Run;
-use super::sensible::smooth_epoch;
+use super::sensible::{finalise, go_back, smooth_epoch};
 use crate::packed::LONGEST_LOG;
 use crate::register::{Block, GENESIS, Kind, Message, MessageRecord, Office, Opening, is_quorum};
 
@@ -88,13 +88,26 @@ impl Fork {
         self.register(run, votes);
         run.advance();
     }
+
+    /// So many blocks that both chains have; then most voters try to finalise.
+    fn grow_common(&mut self, run: &mut Run, blocks: usize) {
+        for _ in 0..blocks {
+            self.grow_one(run, 0);
+        }
+        self.tips[1] = self.tips[0];
+        for &voter in &self.voters {
+            if run.random.chance(70) {
+                finalise(run, voter, self.tips[0]);
+            }
+        }
+    }
 }
 
 /// A common chain, then a fork, then a race in which one chain gets ahead, then
 /// epochs with any leaders. Where all trusted offices vote, the signers in a
 /// view differ from block to block.
 pub fn run(mut random: Random) -> Run {
-    let common = random.below(4);
+    let common = random.below(7);
     let pairs = match random.below(20) {
         0 => 120,
         _ => random.between(1, 20),
@@ -107,10 +120,7 @@ pub fn run(mut random: Random) -> Run {
     if run.random.chance(50) {
         fork.voters = run.trusted();
     }
-    for _ in 0..common {
-        fork.grow_one(&mut run, 0);
-    }
-    fork.tips[1] = fork.tips[0];
+    fork.grow_common(&mut run, common);
     for _ in 0..pairs {
         fork.grow(&mut run);
         run.random.shuffle(&mut fork.voters);
@@ -140,12 +150,17 @@ fn opening_of(random: &mut Random, bad: usize, usual: usize) -> Opening {
     }
 }
 
-/// Sometimes a voter tries to finalise, sometimes a random step is taken.
+/// Sometimes a voter tries to finalise, sometimes one goes back to an older run
+/// of three, sometimes a random step is taken.
 fn disturb(run: &mut Run, fork: &Fork) {
     if run.random.chance(30) {
         let voter = run.random.pick(&fork.voters);
         let tip = run.random.pick(&fork.tips);
-        run.finalise(voter, tip);
+        finalise(run, voter, tip);
+    }
+    if run.random.chance(30) {
+        let voter = run.random.pick(&fork.voters);
+        go_back(run, voter);
     }
     if run.random.chance(15) {
         let step = noise::step(run);

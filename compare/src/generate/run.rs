@@ -141,6 +141,19 @@ impl Run {
         Block(self.random.between(0, last) as u8)
     }
 
+    /// A block from 1 up of an office's final chain, if there is one.
+    pub fn any_final_block(&mut self, office: Office) -> Option<Block> {
+        let mut block = self.register.final_block(office);
+        let length = self.register.chain_length(block);
+        if length == 0 {
+            return None;
+        }
+        for _ in 0..self.random.below(length) {
+            block = self.register.block(block).parent;
+        }
+        Some(block)
+    }
+
     /// A payload, often one that was used before.
     pub fn any_payload(&mut self) -> u16 {
         match self.random.below(3) {

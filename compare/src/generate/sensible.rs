@@ -235,16 +235,36 @@ fn replay(run: &mut Run, sender: Office) {
     }
 }
 
-/// Offices try to finalise what looks final to them, seldom any block.
+/// Offices try to finalise what looks final to them, seldom any block. Some name
+/// the same block once more, or go back to an older one.
 fn finalisations(run: &mut Run) {
     for office in run.trusted() {
         if run.random.chance(60) {
             let block = run.longest(office);
-            run.finalise(office, block);
+            finalise(run, office, block);
         }
         if run.random.chance(15) {
             let block = run.any_block();
             run.finalise(office, block);
         }
+        if run.random.chance(15) {
+            go_back(run, office);
+        }
+    }
+}
+
+/// An office names a block, and sometimes the same one again.
+pub fn finalise(run: &mut Run, office: Office, block: Block) {
+    run.finalise(office, block);
+    if run.random.chance(10) {
+        run.finalise(office, block);
+    }
+}
+
+/// An office names a block of its final chain, which often ends an older run of
+/// three.
+pub fn go_back(run: &mut Run, office: Office) {
+    if let Some(block) = run.any_final_block(office) {
+        run.finalise(office, block);
     }
 }

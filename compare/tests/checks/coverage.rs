@@ -1,11 +1,12 @@
 //! What the generated logs bring: each refusal that a log can bring, in each
-//! step that can bring it, accepted steps of each kind, and forks.
+//! step that can bring it, accepted steps of each kind, forks, and final chains
+//! that grow, stay or would go back.
 
-use super::forks::{chains_after_fork, register_after};
+use super::forks::{chains_after_fork, notarised_tips, register_after};
 use skovarnek_compare::generate;
 use skovarnek_compare::packed::read_log;
 use skovarnek_compare::refusal::Refusal;
-use skovarnek_compare::register::Register;
+use skovarnek_compare::register::{Block, Office, Register, Step};
 use skovarnek_compare::text::step_word;
 use std::collections::BTreeMap;
 
@@ -96,5 +97,76 @@ fn generated_logs_bring_forks() {
         let logs = depths.iter().filter(|&&brought| brought >= depth).count();
         println!("forks of {depth} blocks or more: {logs}");
         assert!(logs >= least, "forks of {depth} blocks: {logs}");
+    }
+}
+
+/// How many finalise steps do what to the final chain of their office.
+#[derive(Default)]
+struct Finalised {
+    /// Refused with 32.
+    behind: usize,
+    /// Of these, the ones of an office that sees two notarised chains.
+    behind_at_fork: usize,
+    /// Accepted, and the chain is as long as before.
+    as_long: usize,
+    /// Accepted, and a chain that had blocks before is longer.
+    longer: usize,
+}
+
+impl Finalised {
+    fn count(&mut self, log: &[u8]) {
+        let Ok(log) = read_log(log) else {
+            return;
+        };
+        let mut register = Register::open(&log.opening).expect("a log that reads opens");
+        for step in &log.steps {
+            if let Step::Finalise { office, block } = *step {
+                self.finalise(&mut register, office, block);
+            } else {
+                let _ = register.step(step);
+            }
+        }
+    }
+
+    /// Takes the step and counts it.
+    fn finalise(&mut self, register: &mut Register, office: Office, block: Block) {
+        let before = final_length(register, office);
+        let answer = register.finalise(office, block);
+        let after = final_length(register, office);
+        match answer {
+            Err(Refusal::Behind) => {
+                self.behind += 1;
+                let fork = notarised_tips(register, office).len() > 1;
+                self.behind_at_fork += usize::from(fork);
+            }
+            Ok(_) if after == before => self.as_long += 1,
+            Ok(_) if before > Some(0) => self.longer += 1,
+            _ => {}
+        }
+    }
+}
+
+/// The length of the final chain, if the office is a trusted one.
+fn final_length(register: &Register, office: Office) -> Option<usize> {
+    let office = register.trusted_offices().find(|&known| known == office)?;
+    Some(register.chain_length(register.final_block(office)))
+}
+
+/// In the generated logs offices name older runs of three, also where they see a
+/// fork, the same run again, and newer runs.
+#[test]
+fn generated_logs_bring_final_chains() {
+    let mut found = Finalised::default();
+    for seed in 0..4000 {
+        found.count(&generate::log(seed));
+    }
+    for (what, steps, least) in [
+        ("refused with 32", found.behind, 1000),
+        ("refused with 32 at a fork", found.behind_at_fork, 100),
+        ("accepted, as long", found.as_long, 1000),
+        ("accepted, longer", found.longer, 3000),
+    ] {
+        println!("finalise {what}: {steps}");
+        assert!(steps >= least, "finalise {what}: {steps}");
     }
 }
