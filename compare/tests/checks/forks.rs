@@ -14,7 +14,7 @@ pub fn register_after(log: &[u8]) -> Option<Register> {
 }
 
 /// The blocks of a chain, genesis first.
-fn chain(register: &Register, last: Block) -> Vec<Block> {
+pub fn chain(register: &Register, last: Block) -> Vec<Block> {
     let mut chain = vec![last];
     let mut block = last;
     while block != GENESIS {

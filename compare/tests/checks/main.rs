@@ -1,12 +1,14 @@
 //! The tests: hand-written cases, what the generated logs bring, what the logs
-//! to measure with are, the text form, the tool, and (feature `proved`) the
-//! comparison of both checkers and the proved program.
+//! to measure with are, that final chains never go back, the text form, the
+//! tool, and (feature `proved`) the comparison of both checkers and the proved
+//! program.
 
 mod cases;
 mod coverage;
 mod forks;
 mod heavy;
 mod logtool;
+mod never_back;
 #[cfg(feature = "proved")]
 mod program;
 #[cfg(feature = "proved")]
