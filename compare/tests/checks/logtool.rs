@@ -1,7 +1,10 @@
 //! The tool as it is called.
 
 use super::cases;
+use skovarnek_compare::check;
+use std::fs;
 use std::io::Write;
+use std::path::{Path, PathBuf};
 use std::process::{Command, Output, Stdio};
 
 fn logtool(argument: &str, input: &[u8]) -> Output {
@@ -47,6 +50,46 @@ fn explained() {
     assert_eq!(line(18).as_deref(), Some(wanted));
     let wanted = "office 1 2 2 final block 2, a chain of 2 blocks";
     assert_eq!(line(20).as_deref(), Some(wanted));
+}
+
+/// A file of the sample logs.
+fn sample(name: &str) -> PathBuf {
+    let folder = Path::new(env!("CARGO_MANIFEST_DIR")).join("../examples/sample-logs");
+    folder.join(name)
+}
+
+#[test]
+fn going_back_explained() {
+    let log = fs::read(sample("going-back.log")).expect("a log");
+    let explained = words(&logtool("explain", &log).stdout);
+    let lines: Vec<String> = explained.lines().map(single_spaced).collect();
+    let wanted = [
+        "8 0 3 finalise 0 4 accepted: block 3 is final",
+        "9 32 0 finalise 0 3 behind: final chain would be shorter than the present one",
+        "10 0 3 finalise 0 4 accepted: block 3 is final",
+        "office 0 3 3 final block 3, a chain of 3 blocks",
+    ];
+    assert_eq!(lines[7..], wanted);
+}
+
+/// Each sample log has its text and its report beside it.
+#[test]
+fn sample_logs() {
+    let files = fs::read_dir(sample("")).expect("a folder");
+    let paths = files.map(|file| file.expect("a file").path());
+    let is_log = |path: &PathBuf| path.extension().is_some_and(|end| end == "log");
+    let logs: Vec<PathBuf> = paths.filter(is_log).collect();
+    assert!(logs.len() >= 5, "{logs:?}");
+    for path in logs {
+        let beside = |end: &str| fs::read(path.with_extension(end)).expect("a file");
+        let log = beside("log");
+        let text = logtool("text", &log);
+        assert_eq!(words(&text.stdout), words(&beside("txt")), "{path:?}");
+        assert_eq!(words(&check(&log)), words(&beside("report")), "{path:?}");
+        if text.status.success() {
+            assert_eq!(logtool("log", &text.stdout).stdout, log, "{path:?}");
+        }
+    }
 }
 
 fn single_spaced(line: &str) -> String {
