@@ -91,5 +91,5 @@ only-added run i j before =
 pub never-back : NeverBack
 unfolding NeverBack Trusted finalChain
 never-back run i j p before t =
-    let on = onward run i j before in
+    let on = onward run i j (omega (arith, before)) in
     shorter-begins run i j p p t (trusted-kept (on .grows) (p .0) ∙ t) (on .forward (p .0) t)
