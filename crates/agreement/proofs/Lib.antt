@@ -1,4 +1,4 @@
--- The proof of agreement, in this order.
+-- The proofs of the claims, in this order.
 pub mod Safety
 pub mod Preservation
 pub mod Steps

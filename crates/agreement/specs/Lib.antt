@@ -1,2 +1,2 @@
--- The agreement of final chains; its runs and moments are those of `register`.
+-- What is claimed of final chains; the runs and moments are those of `register`.
 pub mod Claim

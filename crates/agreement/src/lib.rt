@@ -1,2 +1,2 @@
-// This crate has no code: it holds the theorem that final chains agree, over the rules of crate `register`.
-// specs/Claim.antt states it, proofs/Agreement.antt proves it.
+// This crate has no code: it holds the theorems that final chains agree and never go back, over the rules of crate `register`.
+// specs/Claim.antt states them, proofs/Agreement.antt and Consequences.antt prove them.
