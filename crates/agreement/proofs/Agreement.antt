@@ -18,7 +18,7 @@ use Rattle.register.proofs.FitSteps.{ranges-step}
 use Rattle.register.proofs.Running.{after-append}
 use Rattle.register.specs.Tables.{trusted, finalOf, parentOf}
 use Rattle.register.specs.Chains.{chain, chainLength, begins, chainNotarised}
-use Rattle.register.proofs.Chains.{parent-le, chain-genesis, chain-step, notarised-on, on-own-chain}
+use Rattle.register.proofs.Chains.{parent-le, chain-genesis, chain-step, last-notarised}
 use Rattle.register.proofs.Finalising.{Consecutive}
 use Rattle.register.proofs.Growth.{Grows, grows-refl, grows-trans, trusted-kept, chain-same, length-kept, chain-notarised-kept, consecutive-kept}
 use Rattle.agreement.specs.Claim.{chainOf, finalChain, Trusted, Notarised, Begins, Agreement}
@@ -84,7 +84,7 @@ grows-moment run i =
 -- a block other than genesis whose chain is notarised has been made
 notarised-le : {r : Book} (q e : ℕ) → Safe r → 0 < e → chainNotarised r q e ≡ true → e ≤ r .last .0
 notarised-le {r} q e safe pos n =
-    let on : _ = notarised-on r q e e n (on-own-chain r e pos) in
+    let on : _ = last-notarised r q e pos n in
     signed-le safe (shared-signer safe q q e e pos pos on on .2)
 
 -- the middle one of three consecutive blocks of one moment is on every notarised chain of another that is at least as long

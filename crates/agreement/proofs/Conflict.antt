@@ -1,9 +1,10 @@
 -- Why no two final chains part: two notarised blocks share a trusted signer, and what one trusted office signs is ordered.
 use Prim.Native.Nat.{ℕ, suc, _*_, _<_, _≤_}
-use mathlib.Core.Path.{_≡_, sym, ap, _∙_, subst⁻¹}
+use mathlib.Core.Path.{_≡_, ap, _∙_, subst⁻¹}
 use mathlib.Core.Bool.{true, false, not}
 use mathlib.Core.Logic.{⊎-elim}
 use native.Mathlib.Omega.{arith}
+use native.Mathlib.Decide.{ℕ-discrete}
 use borrow.Author.Tests.{eqb-true, not-false}
 use lib.Dec.{eqb}
 use Rattle.words.specs.Tests.{both, member}
@@ -15,9 +16,9 @@ use Rattle.register.specs.declared.book.Book.{Book}
 use Rattle.register.specs.Tables.{trusted, parentOf, epochOf}
 use Rattle.register.specs.Views.{inView, says, signed, notarised}
 use Rattle.register.specs.Chains.{chain, chainLength, chainNotarised}
-use Rattle.register.proofs.Chains.{length-step, on-own-chain, on-longer-chain, notarised-on, Ancestor, ancestor}
+use Rattle.register.proofs.Chains.{epoch-genesis, length-step, long-made, last-notarised, last-later, notarised-on, Ancestor, ancestor}
 use Rattle.quorum.proofs.Enough.{enough-least}
-use Rattle.register.proofs.Finalising.{Consecutive}
+use Rattle.register.proofs.Finalising.{Consecutive, middle-notarised, oldest-notarised}
 use Rattle.agreement.proofs.Safety.{Signature, Ordered, same, before, after, Safe, signature}
 
 -- a signature in a view is one of the history
@@ -45,53 +46,52 @@ module _ {r : Book} (safe : Safe r) where
       (omega (arith, safe .few)) (omega (arith, two-thirds r p x px nx)) (omega (arith, two-thirds r q y py ny)) in
       (f .0, not-false _ (f .4), in-history r p (f .0) x (f .2), in-history r q (f .0) y (f .3))
 
-  -- so two notarised blocks are ordered
-  both-ordered : (p q x y : ℕ) → 0 < x → 0 < y → notarised r p x ≡ true → notarised r q y ≡ true → Ordered r x y
+  -- so the last blocks of two notarised chains are ordered
+  both-ordered : (p q x y : ℕ) → 0 < x → 0 < y → chainNotarised r p x ≡ true → chainNotarised r q y ≡ true → Ordered r x y
   both-ordered p q x y px py nx ny =
-      let f : (h : ℕ) × (trusted r h ≡ true) × Signature r h x × Signature r h y = shared-signer p q x y px py nx ny in
+      let f : (h : ℕ) × (trusted r h ≡ true) × Signature r h x × Signature r h y =
+      shared-signer p q x y px py (last-notarised r p x px nx) (last-notarised r q y py ny) in
       safe .ordered (f .0) x y (f .1) (f .2) (f .3)
 
-  -- two notarised blocks of one epoch are the same
+  -- two ordered blocks of one epoch are the same
   one-per-epoch : {x y : ℕ} → Ordered r x y → epochOf r x ≡ epochOf r y → x ≡ y
   one-per-epoch (same e) h = e
   one-per-epoch (before b) h = absurd (omega (arith, b .earlier))
   one-per-epoch (after b) h = absurd (omega (arith, b .earlier))
 
-  -- of two notarised blocks, the one on the longer parent's chain has the later epoch
-  longer-later : {x y : ℕ} → Ordered r x y → chainLength r (parentOf r x) < chainLength r (parentOf r y) → epochOf r x < epochOf r y
-  longer-later (same e) h = absurd (omega (arith, ap (λ (z : ℕ). chainLength r (parentOf r z)) e))
-  longer-later (before b) h = b .earlier
-  longer-later (after b) h = absurd (omega (arith, b .shorter))
+  -- of two ordered blocks, the one on the longer parent's chain has the later epoch
+  ordered-later : {x y : ℕ} → Ordered r x y → chainLength r (parentOf r x) < chainLength r (parentOf r y) → epochOf r x < epochOf r y
+  ordered-later (same e) h = absurd (omega (arith, ap (λ (z : ℕ). chainLength r (parentOf r z)) e))
+  ordered-later (before b) h = b .earlier
+  ordered-later (after b) h = absurd (omega (arith, b .shorter))
+
+  -- Of two notarised chains the longer one ends in the later epoch. The shorter one may be that of genesis, whose epoch is below every other on a
+  -- valid chain.
+  longer-later : (p q x y : ℕ) → chainNotarised r p x ≡ true → chainNotarised r q y ≡ true → chainLength r x < chainLength r y
+      → epochOf r x < epochOf r y
+  longer-later p q x y nx ny longer =
+      let py : 0 < y = long-made r y longer in
+      elim (ℕ-discrete x 0) as (λ _. epochOf r x < epochOf r y) [
+        | yes z ↦ omega (arith, ap (epochOf r) z, epoch-genesis r, last-later r q y py ny)
+        | no n ↦ let px : 0 < x = omega (arith, n) in
+            ordered-later (both-ordered p q x y px py nx ny) (omega (arith, length-step r x px, length-step r y py))
+      ]
 
   -- The middle one of three consecutive blocks is on every notarised chain that is at least as long as its own.
   pub middle-on-chain : {p b c d : ℕ} (q e : ℕ) → Consecutive r p b c d → chainNotarised r q e ≡ true
       → chainLength r c ≤ chainLength r e → member c (chain r e) ≡ true
   middle-on-chain {p} {b} {c} {d} q e three notary long =
-      let len-c : chainLength r c ≡ suc (chainLength r d) =
-      length-step r c (three .middle) ∙ ap (λ (y : ℕ). suc (chainLength r y)) (three .grandparent) in
-      let len-d : chainLength r d ≡ suc (chainLength r (parentOf r d)) = length-step r d (three .oldest) in
+      let len-b : chainLength r b ≡ suc (chainLength r c) = one-longer (three .newest) (three .parent) in
+      let len-c : chainLength r c ≡ suc (chainLength r d) = one-longer (three .middle) (three .grandparent) in
       let peer : Ancestor r e (chainLength r c) = ancestor r (chainLength r c) e (omega arith) long in
       let x : ℕ = peer .block in
-      let len-x : chainLength r x ≡ suc (chainLength r (parentOf r x)) = length-step r x (peer .above-genesis) in
-      let c-on-b : member c (chain r b) ≡ true = on-parent b c (three .newest) (three .parent) (on-own-chain r c (three .middle)) in
-      let d-on-c : member d (chain r c) ≡ true = on-parent c d (three .middle) (three .grandparent) (on-own-chain r d (three .oldest)) in
-      let d-on-b : member d (chain r b) ≡ true = on-parent b d (three .newest) (three .parent) d-on-c in
-      let ordered : (y : ℕ) → 0 < y → member y (chain r b) ≡ true → Ordered r y x =
-      λ y pos on.
-      both-ordered p q y x pos (peer .above-genesis) (notarised-on r p b y (three .chain) on)
-      (notarised-on r q e x notary (peer .on-chain)) in
-      let above-d : epochOf r d < epochOf r x = longer-later (ordered d (three .oldest) d-on-b) (omega (arith, peer .length)) in
-      let below-b : epochOf r x < epochOf r b =
-      longer-later (turned (ordered b (three .newest) (on-own-chain r b (three .newest))))
-      (omega (arith, peer .length, ap (chainLength r) (three .parent))) in
+      let chain-x : chainNotarised r q x ≡ true = notarised-on r q x e (peer .on-chain) notary in
+      let above-d : epochOf r d < epochOf r x = longer-later p q d x (oldest-notarised three) chain-x (omega (arith, peer .length)) in
+      let below-b : epochOf r x < epochOf r b = longer-later q p x b chain-x (three .chain) (omega (arith, peer .length)) in
       let is-c : c ≡ x =
-      one-per-epoch (ordered c (three .middle) c-on-b) (omega (arith, three .one-later, three .two-later)) in
+      one-per-epoch (both-ordered p q c x (three .middle) (peer .above-genesis) (middle-notarised three) chain-x)
+      (omega (arith, three .one-later, three .two-later)) in
       subst⁻¹ (λ (y : ℕ). member y (chain r e) ≡ true) is-c (peer .on-chain)
     where
-      on-parent : (b y : ℕ) {c : ℕ} → 0 < b → parentOf r b ≡ c → member y (chain r c) ≡ true → member y (chain r b) ≡ true
-      on-parent b y pos e on = on-longer-chain r b y pos (subst⁻¹ (λ (z : ℕ). member y (chain r z) ≡ true) e on)
-
-      turned : {x y : ℕ} → Ordered r x y → Ordered r y x
-      turned (same e) = same (sym e)
-      turned (before b) = after b
-      turned (after b) = before b
+      one-longer : {b c : ℕ} → 0 < b → parentOf r b ≡ c → chainLength r b ≡ suc (chainLength r c)
+      one-longer {b} pos e = length-step r b pos ∙ ap (λ (y : ℕ). suc (chainLength r y)) e

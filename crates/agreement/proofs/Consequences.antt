@@ -16,7 +16,8 @@ use Rattle.register.specs.Books.{block, bookOf}
 use Rattle.register.specs.Tables.{finalOf}
 use Rattle.register.specs.Chains.{chainNotarised}
 use Rattle.register.specs.Steps.{stepRule}
-use Rattle.register.proofs.Chains.{genesis-notarised, notarised-parent}
+use Rattle.register.proofs.Chains.{genesis-notarised}
+use Rattle.register.proofs.Finalising.{middle-notarised}
 use Rattle.register.proofs.Growth.{trusted-kept}
 use Rattle.register.proofs.Running.{after-append}
 use Rattle.register.specs.Runs.{afterSteps, ran, Run, opened, moment}
@@ -27,8 +28,7 @@ use Rattle.agreement.proofs.Agreement.{Onward, onward-after, safe-momen
 -- a final chain is notarised in its office's view
 final-notarised : {r : Book} {p c : ℕ} → Finalised r p c → chainNotarised r p c ≡ true
 final-notarised {r} {p} (genesis z) = subst⁻¹ (λ (x : ℕ). chainNotarised r p x ≡ true) z (genesis-notarised r p)
-final-notarised {r} {p} (middle b d l three) =
-    subst (λ (x : ℕ). chainNotarised r p x ≡ true) (three .parent) (notarised-parent r p b (three .newest) (three .chain))
+final-notarised (middle b d l three) = middle-notarised three
 
 -- the final chain that is not longer begins the other
 pub shorter-begins : (run : Run) (i j : ℕ) (p q : Office) → Trusted (moment run i) p → Trusted (moment run j) q

@@ -7,4 +7,4 @@ pub mod Opening
 pub mod Agreement
 pub mod Consequences
 pub mod Witnesses
-pub mod Fork
+pub mod Runs

@@ -15,7 +15,7 @@ use Rattle.register.specs.Chains.{chainLength, longest}
 use Rattle.register.specs.Refusals.{notInHand, inHistory, blocksFull}
 use Rattle.register.specs.Steps.{propose, vote, register, finalise, deliver, badSend, draft, advance, ruleOf}
 use Rattle.register.proofs.Places.{Placed, placed}
-use Rattle.register.proofs.Finalising.{Consecutive, consecutive}
+use Rattle.register.proofs.Finalising.{Consecutive, three-blocks}
 
 -- a trusted office is below n
 pub trusted-below : (r : Book) (q : ℕ) → trusted r q ≡ true → q < r .n
@@ -114,7 +114,7 @@ module _ (r : Book) where
       record {
         block = ltb-false _ _ (fails .1 .0);
         trusted = not-false _ (fails .1 .1 .0);
-        three = consecutive r (office .0) (newest .0) (not-false _ (fails .1 .1 .1 .0));
+        three = three-blocks r (office .0) (newest .0) (not-false _ (fails .1 .1 .1 .0));
         forward = ltb-false _ _ (fails .1 .1 .1 .1 .0);
       }
 

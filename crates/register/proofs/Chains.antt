@@ -1,17 +1,17 @@
 -- Laws of chains.
 use Prim.Native.Nat.{ℕ, zero, suc, _<_, _≤_}
-use mathlib.Core.Path.{_≡_, refl, sym, ap, _∙_, subst}
+use mathlib.Core.Path.{_≡_, refl, sym, ap, _∙_, subst, subst⁻¹}
 use mathlib.Core.Bool.{Bool, true}
 use mathlib.Core.List.{List, [], _∷_}
 use mathlib.Core.Logic.{⊎-elim}
 use native.Mathlib.Omega.{arith}
 use native.Mathlib.Decide.{ℕ-discrete}
-use borrow.Author.Tests.{eq-eqb, eqb-true}
+use borrow.Author.Tests.{eq-eqb, eqb-true, ltb-true}
 use lib.Dec.{eqb, ltb}
 use lib.ListN.{length}
 use Rattle.words.specs.Tests.{choose, both, every, member}
 use Rattle.words.proofs.Tests.{both-left, both-right, both-make, either-cases, either-left, either-right, clash, every-at}
-use Rattle.tables.specs.Blocks.{madeIn, parentIn}
+use Rattle.tables.specs.Blocks.{madeIn, parentIn, epochIn}
 use Rattle.tables.proofs.Chains.{Down, parent-in-lt, chain-by-genesis, chain-by-step, climb-induction}
 use Rattle.register.specs.Types.{Book}
 use Rattle.register.specs.Tables.{parentOf, epochOf}
@@ -26,6 +26,11 @@ parent-lt r = parent-in-lt (r .parents) (r .last .0)
 parent-genesis : (r : Book) → parentOf r 0 ≡ 0
 unfolding parentIn madeIn both choose
 parent-genesis r = refl
+
+-- genesis has epoch 0
+pub epoch-genesis : (r : Book) → epochOf r 0 ≡ 0
+unfolding epochIn madeIn both choose
+epoch-genesis r = refl
 
 -- a parent's number is no greater, also that of genesis
 pub parent-le : (r : Book) (b : ℕ) → parentOf r b ≤ b
@@ -53,6 +58,11 @@ length-genesis r = ap length (chain-genesis r)
 -- any other block's chain is one longer than its parent's
 pub length-step : (r : Book) (b : ℕ) → 0 < b → chainLength r b ≡ suc (chainLength r (parentOf r b))
 length-step r b h = ap length (chain-step r b h)
+
+-- a block whose chain has a length above some number is not genesis
+pub long-made : (r : Book) (b : ℕ) {k : ℕ} → k < chainLength r b → 0 < b
+long-made r zero h = absurd (omega (arith, length-genesis r))
+long-made r (suc b) h = omega arith
 
 -- a block is on its own chain
 pub on-own-chain : (r : Book) (b : ℕ) → 0 < b → member b (chain r b) ≡ true
@@ -82,20 +92,36 @@ pub genesis-notarised : (r : Book) (q : ℕ) → chainNotarised r q 0 ≡ true
 unfolding chainNotarised every both
 genesis-notarised r q = rw (chain-genesis r)
 
--- every block of a notarised chain is notarised
-pub notarised-on : (r : Book) (q b x : ℕ) → chainNotarised r q b ≡ true → member x (chain r b) ≡ true → notarised r q x ≡ true
+-- the last block of a notarised chain is notarised
+pub last-notarised : (r : Book) (q b : ℕ) → 0 < b → chainNotarised r q b ≡ true → notarised r q b ≡ true
 unfolding chainNotarised
-notarised-on r q b x n m = every-at (notarised r q) (chain r b) x (both-right _ _ n) m
+last-notarised r q b h n = every-at (notarised r q) (chain r b) b (both-right _ _ n) (on-own-chain r b h)
+
+-- and its epoch is later than its parent's
+pub last-later : (r : Book) (q b : ℕ) → 0 < b → chainNotarised r q b ≡ true → epochOf r (parentOf r b) < epochOf r b
+unfolding chainNotarised
+last-later r q b h n =
+    ltb-true _ _
+    (every-at (λ x. ltb (epochOf r (parentOf r x)) (epochOf r x)) (chain r b) b (both-left _ _ n) (on-own-chain r b h))
+
+-- what passes from every block to its parent passes from a block to all on its chain
+on-chain-down : (r : Book) (P : ℕ → Type 0) → ((b : ℕ) → 0 < b → P b → P (parentOf r b)) → (x b : ℕ)
+    → member x (chain r b) ≡ true → P b → P x
+unfolding member
+on-chain-down r P down x =
+    chain-induction r (λ (b : ℕ). member x (chain r b) ≡ true → P b → P x)
+    (λ m p. clash (subst (λ (c : List ℕ). member x c ≡ true) (chain-genesis r) m) refl)
+    (λ b h ih m p.
+    ⊎-elim (λ e. subst⁻¹ P (eqb-true x b e) p) (λ l. ih l (down b h p))
+    (either-cases (eqb x b) (member x (chain r (parentOf r b))) (subst (λ (c : List ℕ). member x c ≡ true) (chain-step r b h) m)))
+
+-- the chain of every block on a notarised chain is notarised
+pub notarised-on : (r : Book) (q x b : ℕ) → member x (chain r b) ≡ true → chainNotarised r q b ≡ true → chainNotarised r q x ≡ true
+notarised-on r q = on-chain-down r (λ (y : ℕ). chainNotarised r q y ≡ true) (notarised-parent r q)
 
 -- a block on the chain of b is no greater than b
 pub on-chain-le : (r : Book) (x b : ℕ) → member x (chain r b) ≡ true → x ≤ b
-unfolding member
-on-chain-le r x =
-    chain-induction r (λ (b : ℕ). member x (chain r b) ≡ true → x ≤ b)
-    (λ m. clash (subst (λ (c : List ℕ). member x c ≡ true) (chain-genesis r) m) refl)
-    (λ b h ih m.
-    ⊎-elim (λ e. omega (arith, eqb-true x b e)) (λ l. omega (arith, ih l, parent-lt r b h))
-    (either-cases (eqb x b) (member x (chain r (parentOf r b))) (subst (λ (c : List ℕ). member x c ≡ true) (chain-step r b h) m)))
+on-chain-le r x b m = on-chain-down r (λ (y : ℕ). y ≤ b) (λ y h l. omega (arith, parent-lt r y h)) x b m (omega arith)
 
 -- a block on the chain of b whose own chain has length k
 pub record Ancestor (r : Book) (b k : ℕ) : Type 0 where

@@ -1,7 +1,6 @@
 -- The laws of the definitions in specs/, by topic.
 pub mod Typing
 pub mod Copying
-pub mod Joining
 pub mod Tables
 pub mod Chains
 pub mod Finalising

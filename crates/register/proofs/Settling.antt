@@ -20,7 +20,8 @@ use Rattle.register.specs.Chains.{chainNotarised}
 use Rattle.register.specs.Effects.{withBlock, withSent, withMoved, withActed, withState, withNextEpoch}
 use Rattle.register.specs.Steps.{refusal, judged, ruleOf}
 use Rattle.register.specs.Settled.{Settled, AllSettled, Base, settledBase, actorOf, Acts}
-use Rattle.register.proofs.Chains.{parent-le, genesis-notarised, notarised-parent}
+use Rattle.register.proofs.Chains.{parent-le, genesis-notarised}
+use Rattle.register.proofs.Finalising.{middle-notarised}
 use Rattle.register.proofs.Naming.{named-keeps}
 use Rattle.register.proofs.Accepted.{Accepted, accepted}
 use Rattle.register.proofs.Judging.{passed, judged-has}
@@ -82,7 +83,7 @@ states r (Step.Finalise office newest) a = (
   λ q other. getD-set-other (r .offices) (office .0) q _ _ other,
   λ l.
       settled-new r (office .0) (parentOf r (newest .0)) _ refl (omega (arith, parent-le r (newest .0), a .block))
-      (notarised-parent r (office .0) (newest .0) (a .three .newest) (a .three .chain)),
+      (middle-notarised (a .three)),
 )
 states r (Step.Deliver message office) a = (λ q other. refl, λ l. absurd (omega arith))
 states r (Step.BadSend sender kind signer about) a = (λ q other. refl, λ l. absurd (omega arith))

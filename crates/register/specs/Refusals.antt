@@ -60,18 +60,20 @@ notLongest r q parent = not (longest r q parent)
 abbrev pub epochs : (epoch : ℕ) → (parentEpoch : ℕ) → Bool
 epochs epoch parentEpoch = leb epoch parentEpoch
 
--- block b, its parent c and c's parent d are not genesis, their epochs are k + 2, k + 1 and k, and b's chain is notarised in
--- the office's view
-unfoldable pub finalises : Book → ℕ → ℕ → Bool
-finalises r q b =
+-- three consecutive blocks: b and c are not genesis, and the epochs of b, c and d are k + 2, k + 1 and k. The oldest, d, may be genesis, of epoch 0.
+unfoldable pub consecutive : (epochOf : ℕ → ℕ) → (b c d : ℕ) → Bool
+consecutive epochOf b c d =
     conj
     (not (eqb b 0)
-    ∷ not (eqb (parentOf r b) 0)
-    ∷ not (eqb (parentOf r (parentOf r b)) 0)
-    ∷ eqb (epochOf r (parentOf r b)) (epochOf r (parentOf r (parentOf r b)) + 1)
-    ∷ eqb (epochOf r b) (epochOf r (parentOf r (parentOf r b)) + 2)
-    ∷ chainNotarised r q b
+    ∷ not (eqb c 0)
+    ∷ eqb (epochOf c) (epochOf d + 1)
+    ∷ eqb (epochOf b) (epochOf d + 2)
     ∷ [])
+
+-- block b, its parent c and c's parent d are consecutive, and b's chain is notarised in the office's view
+unfoldable pub finalises : Book → ℕ → ℕ → Bool
+finalises r q b =
+    both (consecutive (epochOf r) b (parentOf r b) (parentOf r (parentOf r b))) (chainNotarised r q b)
 
 -- 21: the condition for finalising is unmet
 abbrev pub notFinal : Book → ℕ → ℕ → Bool

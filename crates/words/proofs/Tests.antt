@@ -190,6 +190,12 @@ and-four true true false d = refl
 and-four true false c d = refl
 and-four false b c d = refl
 
+-- and of five
+pub and-five : (a b c d e : Bool) → a && b && c && d && e ≡ conj (a ∷ b ∷ c ∷ d ∷ e ∷ [])
+unfolding conj both
+and-five true b c d e = and-four b c d e
+and-five false b c d e = refl
+
 -- two tests that say the same of each number below n
 pub any-same : (p q : ℕ → Bool) (n : ℕ) → ((k : ℕ) → k < n → p k ≡ q k) → any n p ≡ any n q
 unfolding any

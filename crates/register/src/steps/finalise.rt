@@ -1,15 +1,12 @@
 // Finalise: an office's final block becomes the parent of a block that meets the condition, unless its final chain would get shorter.
 ghost use mathlib.Core.Path.{_≡_};
-ghost use mathlib.Core.Bool.{true, not};
-ghost use mathlib.Core.List.{[], _∷_};
-ghost use Prim.Native.Nat.{_+_};
-ghost use lib.Dec.{eqb};
+ghost use mathlib.Core.Bool.{true};
+ghost use mathlib.Core.List.{[]};
 ghost use Rattle.words.specs.Lent.{lent};
-ghost use Rattle.words.specs.Tests.{conj};
 ghost use Rattle.words.specs.Refusals.{first};
 ghost use Rattle.tables.specs.Blocks.{trustedIn, epochIn};
 ghost use Rattle.register.specs.Types.{Step};
-ghost use Rattle.register.specs.Refusals.{finalises};
+ghost use Rattle.register.specs.Refusals.{consecutive, finalises};
 ghost use Rattle.register.specs.Steps.{finalise};
 ghost use Rattle.register.specs.Lent.{Counted, lentBook, heldBook, blocks, messages};
 ghost use Rattle.register.specs.Changes.{changeBy};
@@ -26,21 +23,14 @@ use crate::sorts::Block;
 use crate::sorts::Office;
 use crate::table::OfficeState;
 
-// None of the blocks b, c and d is genesis, and their epochs are k + 2, k + 1 and k.
+// The blocks b, c and d are consecutive. Only the oldest, d, may be genesis, whose epoch is 0.
 fn are_consecutive<'a>(epochs: &'a Epochs, last: Block, b: Block, c: Block, d: Block) -> bool
-    ensures { λ r. ⌜ r ≡ conj
-        (not (eqb (b .0) 0)
-        ∷ not (eqb (c .0) 0)
-        ∷ not (eqb (d .0) 0)
-        ∷ eqb (epochIn (lent epochs) (last .0) (c .0)) (epochIn (lent epochs) (last .0) (d .0) + 1)
-        ∷ eqb (epochIn (lent epochs) (last .0) (b .0)) (epochIn (lent epochs) (last .0) (d .0) + 2)
-        ∷ []) ⌝ }
+    ensures { λ r. ⌜ r ≡ consecutive (epochIn (lent epochs) (last .0)) (b .0) (c .0) (d .0) ⌝ }
 {
     let newest = tables::epoch_at(epochs, last.0, b.0) as u32;
     let middle = tables::epoch_at(epochs, last.0, c.0) as u32;
     let oldest = tables::epoch_at(epochs, last.0, d.0) as u32;
-    let none = (b.0 != 0) & ((c.0 != 0) & (d.0 != 0));
-    none & ((middle == oldest + 1) & (newest == oldest + 2))
+    (b.0 != 0) & (c.0 != 0) & (middle == oldest + 1) & (newest == oldest + 2)
 }
 
 // The condition for finalising, of a trusted office in whose view the base's chain is notarised. The messages are read only where the epochs

@@ -1,7 +1,7 @@
 -- `counts_fit` makes the five tests.
 use borrow.Author.Needs.{needs}
+use Rattle.words.proofs.Tests.{and-five}
 use Rattle.register.specs.Fitness.{countsFit}
-use Rattle.register.proofs.Joining.{and-five}
 use Rattle.register.proofs.fitness.counts_fit.Statement.{statement}
 use Rattle.register.proofs.fitness.counts_fit.Tie as tie
 

@@ -1,17 +1,16 @@
--- `are_consecutive` makes the five tests.
+-- `are_consecutive` makes the four tests.
 use borrow.Author.Needs.{needs}
-use Rattle.words.specs.Tests.{conj}
-use Rattle.words.proofs.Tests.{and-both, both-all}
-use Rattle.register.proofs.Joining.{both-assoc}
+use Rattle.words.proofs.Tests.{and-four}
+use Rattle.register.specs.Refusals.{consecutive}
 use Rattle.register.proofs.steps.finalise.are_consecutive.Statement.{statement}
 use Rattle.register.proofs.steps.finalise.are_consecutive.Tie as tie
 
 returns : tie.Need-returns
-unfolding conj
+unfolding consecutive
 returns c =
-    let at = c .before .before .before in
+    let at = c .before .before in
     rw (at .before .before .epoch-at .ensures, at .before .epoch-at2 .ensures, at .epoch-at3 .ensures)
-    (simp (and-both, both-assoc, both-all))
+    (and-four _ _ _ _)
 
 pub are-consecutive-spec : {M : Type 1} → statement M
 are-consecutive-spec =
