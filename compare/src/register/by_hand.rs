@@ -156,3 +156,41 @@ fn not_final_before_behind() {
     assert_eq!(register.finalise(Office(0), Block(7)), refused);
     assert_eq!(register.final_block(Office(0)), Block(3));
 }
+
+#[test]
+fn genesis_is_the_only_oldest_block_of_epoch_0() {
+    // Blocks 1 and 2, of epochs 1 and 2, stand on genesis; blocks 4 and 5, of
+    // the same epochs, on block 3 of epoch 0. All are notarised.
+    let blocks = [(0, 1), (1, 2), (0, 0), (3, 1), (4, 2)];
+    let mut register = made(&blocks, &signed_up_to(5));
+    let view = register.view(Office(0));
+    assert!((0..=5).map(Block).all(|block| view.is_notarised(block)));
+    let refused = Err(Refusal::NotFinal);
+    for _ in 0..2 {
+        assert_eq!(register.finalise(Office(0), Block(5)), refused);
+        assert_eq!(register.finalise(Office(0), Block(2)), Ok(Block(1)));
+        assert_eq!(register.final_block(Office(0)), Block(1));
+    }
+}
+
+#[test]
+fn as_long_from_genesis_through_another_block() {
+    // Two chains of epochs 1 and 2 that part at genesis.
+    let blocks = [(0, 1), (1, 2), (0, 1), (3, 2)];
+    let mut register = made(&blocks, &signed_up_to(4));
+    for (b, c) in [(2, 1), (4, 3), (2, 1)] {
+        assert_eq!(register.finalise(Office(0), Block(b)), Ok(Block(c)));
+    }
+}
+
+#[test]
+fn from_genesis_behind() {
+    // The shorter chain has the higher numbers, and genesis is the oldest of
+    // its three.
+    let blocks = [(0, 3), (1, 4), (2, 5), (0, 1), (4, 2)];
+    let mut register = made(&blocks, &signed_up_to(5));
+    assert_eq!(register.finalise(Office(0), Block(3)), Ok(Block(2)));
+    let refused = Err(Refusal::Behind);
+    assert_eq!(register.finalise(Office(0), Block(5)), refused);
+    assert_eq!(register.final_block(Office(0)), Block(2));
+}

@@ -120,17 +120,17 @@ impl Register {
         Ok(vote)
     }
 
-    /// [5 6 7 10 21 32]: b, its parent c and c's parent d are not genesis, their
-    /// epochs are k+2, k+1, k, and b's chain is notarised in the view; the
-    /// final block becomes c, whose chain may not be shorter than the present
-    /// final chain.
+    /// [5 6 7 10 21 32]: b and its parent c are not genesis, while c's parent d
+    /// may be; the epochs of b, c and d are k+2, k+1, k, and b's chain is
+    /// notarised in the view; the final block becomes c, whose chain may not be
+    /// shorter than the present final chain. The epochs alone keep genesis from
+    /// being b or c: its epoch is 0, which is no k+1 and no k+2.
     pub fn finalise(&mut self, office: Office, b: Block) -> Result<Block, Refusal> {
         self.check_office(office)?;
         self.check_block(b)?;
         self.check_trusted(office)?;
         let c = self.block(b).parent;
         let d = self.block(c).parent;
-        ensure(![b, c, d].contains(&GENESIS), Refusal::NotFinal)?;
         let Epoch(k) = self.block(d).epoch;
         let in_a_row = self.block(c).epoch == Epoch(k + 1) && self.block(b).epoch == Epoch(k + 2);
         ensure(in_a_row, Refusal::NotFinal)?;

@@ -28,7 +28,7 @@ const COUNTS: [Counts; 15] = [
     ("bad sends refused with 22", 65_535, 22_793, &[(22, 21_769)]),
     ("drafts of the last block", 65_535, 14_169, &[]),
     ("131,065 advances", 65_536, 131_065, &[(24, 131_065)]),
-    ("a usual run, 7 offices", 65_535, 28_573, &[(21, 3_108), (23, 6_132)]),
+    ("a usual run, 7 offices", 65_535, 28_573, &[(21, 3_087), (23, 6_132)]),
 ];
 
 /// The refusals (0 if there is none) and values of the steps in a row's report.

@@ -11,7 +11,9 @@ pub fn cases() -> Vec<Case> {
         untrusted_inbox(),
         finalising(),
         own_final_chain(),
+        own_chain_from_genesis(),
         whole_chain(),
+        whole_chain_from_genesis(),
         inbox_and_marks(),
         values(),
     ];
@@ -205,6 +207,29 @@ fn own_final_chain() -> Vec<Case> {
     )]
 }
 
+/// Offices 0 and 1 see blocks of epochs 1 and 2 notarised, then a block of epoch
+/// 3; office 2 sees nothing. With genesis as the oldest of the three, block 1
+/// gets final for office 0 and stays so, though office 1 goes on.
+fn own_chain_from_genesis() -> Vec<Case> {
+    let mut script = Script::default();
+    good_leaders_epoch(&mut script, 1);
+    script.take("finalise 1 1", "21 0");
+    good_leaders_epoch(&mut script, 2);
+    script.take("finalise 0 2", "0 1");
+    script.take("finalise 2 2", "21 0");
+    good_leaders_epoch(&mut script, 3);
+    script.take("finalise 1 3", "0 2");
+    script.take("finalise 1 2", "32 0");
+    script.take("finalise 0 2", "0 1");
+    vec![case(
+        "two offices, genesis the oldest of the three for one of them",
+        "offices 3; trusted 0 1 2; leaders 0 0 0 0",
+        &script.steps(),
+        &script.lines(),
+        "office 0 1 1, office 1 2 2, office 2 0 0",
+    )]
+}
+
 /// Office 0 proposes a block, office 1 votes for it, and office 0 gets the vote.
 fn good_leaders_epoch(script: &mut Script, block: usize) {
     let [proposal, vote] = [2, 1].map(|back| 2 * block - back);
@@ -240,6 +265,29 @@ fn whole_chain() -> Vec<Case> {
         &script.steps(),
         &script.lines(),
         "office 0 3 3, office 1 0 0, office 2 0 0",
+    )]
+}
+
+/// Two blocks of epochs 1 and 2 in the same way, and genesis as the oldest of
+/// the three: it is always notarised, but block 1 still has to be.
+fn whole_chain_from_genesis() -> Vec<Case> {
+    let mut script = Script::default();
+    bad_leaders_epoch(&mut script, 1);
+    script.take("advance", "0 2");
+    bad_leaders_epoch(&mut script, 2);
+    script.take("finalise 1 2", "0 1");
+    script.take("finalise 0 2", "21 0");
+    script.take("register 0 1", "0 1");
+    script.take("register 0 2", "0 2");
+    script.take("finalise 0 2", "21 0");
+    script.take("register 0 3", "0 3");
+    script.take("finalise 0 2", "0 1");
+    vec![case(
+        "finalise wants the whole chain from genesis on notarised",
+        "offices 4; trusted 0 1 2; leaders 3 3",
+        &script.steps(),
+        &script.lines(),
+        "office 0 1 1, office 1 1 1, office 2 0 0",
     )]
 }
 

@@ -18,7 +18,7 @@ pub fn cases() -> Vec<Case> {
     ];
     let rows = tables.into_iter().flatten();
     let rows = rows.map(|(name, opening, steps, lines)| no_final(name, opening, steps, lines));
-    let alone = ALONE.iter();
+    let alone = ALONE.iter().chain(FROM_GENESIS);
     let alone = alone.map(|(name, steps, lines, office)| case(name, ONE, steps, lines, office));
     rows.chain(alone).collect()
 }
@@ -257,6 +257,24 @@ const FINALISE: &[Row] = &[
         "draft 0 1 1; draft 1 2 2; draft 2 3 3; finalise 0 3",
         "1 0 1, 2 0 2, 3 0 3, 4 21 0",
     ),
+    (
+        "finalise 21, genesis the oldest, nothing notarised",
+        THREE,
+        "draft 0 1 1; draft 1 2 2; finalise 0 2",
+        "1 0 1, 2 0 2, 3 21 0",
+    ),
+    // The bad leader signs all three blocks; office 0 votes for none of them,
+    // since no chain with the block of epoch 0 is valid.
+    (
+        "finalise 21, epochs 1 and 2 on a drafted block of epoch 0",
+        "offices 4; trusted 0 1 2; leaders 3 3",
+        "draft 0 0 5; draft 1 1 6; draft 2 2 7; bad-send 3 vote 3 1; bad-send 3 proposal 3 2; \
+             bad-send 3 vote 3 2; deliver 0 0; register 0 0; deliver 1 0; vote 0 1; \
+             deliver 2 0; register 0 2; advance; bad-send 3 proposal 3 3; bad-send 3 vote 3 3; \
+             deliver 3 0; vote 0 3; deliver 4 0; register 0 4; finalise 0 3",
+        "1 0 1, 2 0 2, 3 0 3, 4 0 0, 5 0 1, 6 0 2, 7 0 0, 8 0 0, 9 0 1, 10 19 0, 11 0 2, \
+             12 0 2, 13 0 2, 14 0 3, 15 0 4, 16 0 3, 17 19 0, 18 0 4, 19 0 4, 20 21 0",
+    ),
 ];
 
 const DELIVER: &[Row] = &[
@@ -376,10 +394,10 @@ const ALONE: &[Row] = &[
         "office 0 0 0",
     ),
     (
-        "finalise 21, genesis among the three",
+        "finalise 21, genesis among the three but not the oldest",
         "propose 0 0 1; advance; propose 0 1 2; advance; propose 0 2 3; \
              finalise 0 0; finalise 0 1; finalise 0 2; finalise 0 3",
-        "1 0 0, 2 0 2, 3 0 1, 4 0 3, 5 0 2, 6 21 0, 7 21 0, 8 21 0, 9 0 2",
+        "1 0 0, 2 0 2, 3 0 1, 4 0 3, 5 0 2, 6 21 0, 7 21 0, 8 0 1, 9 0 2",
         "office 0 2 2",
     ),
     (
@@ -424,10 +442,10 @@ const ALONE: &[Row] = &[
         "office 0 4 4",
     ),
     (
-        "finalise 21, before 32, genesis among the three",
+        "finalise 21, before 32, genesis among the three but not the oldest",
         "propose 0 0 1; advance; propose 0 1 2; advance; propose 0 2 3; advance; propose 0 3 4; \
              finalise 0 4; finalise 0 2; finalise 0 1; finalise 0 0",
-        "1 0 0, 2 0 2, 3 0 1, 4 0 3, 5 0 2, 6 0 4, 7 0 3, 8 0 3, 9 21 0, 10 21 0, 11 21 0",
+        "1 0 0, 2 0 2, 3 0 1, 4 0 3, 5 0 2, 6 0 4, 7 0 3, 8 0 3, 9 32 0, 10 21 0, 11 21 0",
         "office 0 3 3",
     ),
     (
@@ -442,6 +460,80 @@ const ALONE: &[Row] = &[
         "propose 0 0 1; advance; propose 0 1 2; advance; propose 0 2 3; advance; propose 0 3 4; \
              draft 2 3 9; finalise 0 4; finalise 0 5; finalise 0 3",
         "1 0 0, 2 0 2, 3 0 1, 4 0 3, 5 0 2, 6 0 4, 7 0 3, 8 0 5, 9 0 3, 10 21 0, 11 32 0",
+        "office 0 3 3",
+    ),
+];
+
+/// The same, where genesis is the oldest of the three or nearly could be.
+const FROM_GENESIS: &[Row] = &[
+    (
+        "finalise, genesis the oldest of the three",
+        "propose 0 0 1; advance; propose 0 1 2; finalise 0 2",
+        "1 0 0, 2 0 2, 3 0 1, 4 0 1",
+        "office 0 1 1",
+    ),
+    (
+        "finalise 21, genesis itself",
+        "finalise 0 0",
+        "1 21 0",
+        "office 0 0 0",
+    ),
+    (
+        "finalise 21, epoch 1 directly on genesis",
+        "propose 0 0 1; finalise 0 1",
+        "1 0 0, 2 21 0",
+        "office 0 0 0",
+    ),
+    (
+        "finalise 21, epoch 2 directly on genesis",
+        "advance; propose 0 0 1; finalise 0 1",
+        "1 0 2, 2 0 0, 3 21 0",
+        "office 0 0 0",
+    ),
+    (
+        "finalise 21, epoch 3 on 1 on genesis",
+        "propose 0 0 1; advance; advance; propose 0 1 2; finalise 0 2",
+        "1 0 0, 2 0 2, 3 0 3, 4 0 1, 5 21 0",
+        "office 0 0 0",
+    ),
+    (
+        "finalise 21, epoch 3 on 2 on genesis, which isn't of epoch 1",
+        "advance; propose 0 0 1; advance; propose 0 1 2; finalise 0 2",
+        "1 0 2, 2 0 0, 3 0 3, 4 0 1, 5 21 0",
+        "office 0 0 0",
+    ),
+    (
+        "finalise 21, epoch 2 drafted on 1 on genesis, b not notarised",
+        "propose 0 0 1; draft 1 2 2; finalise 0 2; advance; propose 0 1 2; finalise 0 2",
+        "1 0 0, 2 0 2, 3 21 0, 4 0 2, 5 0 1, 6 0 1",
+        "office 0 1 1",
+    ),
+    (
+        "finalise 21 on a drafted block of epoch 0, not on genesis",
+        "draft 0 0 5; propose 0 1 6; draft 1 1 6; draft 2 2 7; finalise 0 3; \
+             propose 0 0 6; advance; propose 0 4 7; finalise 0 5; finalise 0 3",
+        "1 0 1, 2 19 0, 3 0 2, 4 0 3, 5 21 0, 6 0 0, 7 0 2, 8 0 1, 9 0 4, 10 21 0",
+        "office 0 4 1",
+    ),
+    (
+        "finalise 32, genesis the oldest of the three, but not while that run is final",
+        "propose 0 0 1; advance; propose 0 1 2; finalise 0 2; finalise 0 2; advance; \
+             propose 0 2 3; finalise 0 2; finalise 0 3; finalise 0 2; finalise 0 3",
+        "1 0 0, 2 0 2, 3 0 1, 4 0 1, 5 0 1, 6 0 3, 7 0 2, 8 0 1, 9 0 2, 10 32 0, 11 0 2",
+        "office 0 2 2",
+    ),
+    (
+        "finalise 21, before 32, epoch 3 on 1 on genesis",
+        "propose 0 0 1; advance; advance; propose 0 1 2; advance; propose 0 2 3; \
+             advance; propose 0 3 4; finalise 0 4; finalise 0 2",
+        "1 0 0, 2 0 2, 3 0 3, 4 0 1, 5 0 4, 6 0 2, 7 0 5, 8 0 3, 9 0 3, 10 21 0",
+        "office 0 3 3",
+    ),
+    (
+        "finalise 21, before 32, epoch 3 on 2 on genesis",
+        "advance; propose 0 0 1; advance; propose 0 1 2; advance; propose 0 2 3; \
+             advance; propose 0 3 4; finalise 0 4; finalise 0 2",
+        "1 0 2, 2 0 0, 3 0 3, 4 0 1, 5 0 4, 6 0 2, 7 0 5, 8 0 3, 9 0 3, 10 21 0",
         "office 0 3 3",
     ),
 ];
