@@ -1,5 +1,6 @@
 //! Logs made from seeds: the same seed always gives the same log.
 
+mod beginnings;
 mod damage;
 mod forks;
 mod full;
@@ -14,7 +15,7 @@ pub use heavy::{Row, rows};
 pub use random::Random;
 
 /// The log of a seed: a sensible run, two chains that grow in turn, random
-/// steps, full tables or damage.
+/// steps, full tables, first blocks or damage.
 pub fn log(seed: u64) -> Vec<u8> {
     let mut random = Random::new(seed);
     match random.below(100) {
@@ -22,6 +23,7 @@ pub fn log(seed: u64) -> Vec<u8> {
         40..45 => forks::run(random).log(),
         45..60 => noise::run(random).log(),
         60..66 => full::run(random).log(),
+        66..71 => beginnings::run(random).log(),
         _ => damage::log(random),
     }
 }

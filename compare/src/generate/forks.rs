@@ -1,12 +1,12 @@
 //! Forks: two chains that grow in turn, both notarised in the same views.
 
 use super::noise;
-use super::openings::opening_with_bad;
+use super::openings::opening_led_by_bad;
 use super::random::Random;
 use super::run::Run;
 use super::sensible::{finalise, go_back, smooth_epoch};
 use crate::packed::LONGEST_LOG;
-use crate::register::{Block, GENESIS, Kind, Message, MessageRecord, Office, Opening, is_quorum};
+use crate::register::{Block, GENESIS, Kind, Message, MessageRecord, Office, is_quorum};
 
 /// Two chains of a bad leader, and trusted offices that vote for both.
 pub struct Fork {
@@ -83,7 +83,7 @@ impl Fork {
     }
 
     /// An epoch for one chain, up to the last step.
-    fn grow_one(&mut self, run: &mut Run, chain: usize) {
+    pub fn grow_one(&mut self, run: &mut Run, chain: usize) {
         let votes = self.extend(run, chain);
         self.register(run, votes);
         run.advance();
@@ -114,7 +114,7 @@ pub fn run(mut random: Random) -> Run {
     };
     let race = random.below(6);
     let usual = random.below(6);
-    let opening = opening_of(&mut random, common + 2 * pairs + race, usual);
+    let opening = opening_led_by_bad(&mut random, common + 2 * pairs + race, usual);
     let mut run = Run::new(random, opening, LONGEST_LOG);
     let mut fork = Fork::new(&run);
     if run.random.chance(50) {
@@ -135,19 +135,6 @@ pub fn run(mut random: Random) -> Run {
         smooth_epoch(&mut run);
     }
     run
-}
-
-/// A bad office leads so many epochs, any offices lead the usual ones.
-fn opening_of(random: &mut Random, bad: usize, usual: usize) -> Opening {
-    let opening = opening_with_bad(random);
-    let untrusted = |office: &u8| opening.trust >> office & 1 == 0;
-    let bad_leader = (0..opening.n).find(untrusted).expect("a bad office");
-    let mut schedule = vec![Office(bad_leader); bad];
-    schedule.extend((0..usual).map(|_| Office(random.below(opening.n.into()) as u8)));
-    Opening {
-        schedule,
-        ..opening
-    }
 }
 
 /// Sometimes a voter tries to finalise, sometimes one goes back to an older run

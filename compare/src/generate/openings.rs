@@ -27,6 +27,20 @@ pub fn opening_with_bad(random: &mut Random) -> Opening {
     opening_of(random, n, usize::from((n - 1) / 3))
 }
 
+/// The same, and a bad office leads so many epochs; any offices lead the usual
+/// ones after them.
+pub fn opening_led_by_bad(random: &mut Random, bad: usize, usual: usize) -> Opening {
+    let opening = opening_with_bad(random);
+    let untrusted = |office: &u8| opening.trust >> office & 1 == 0;
+    let bad_leader = (0..opening.n).find(untrusted).expect("a bad office");
+    let mut schedule = vec![Office(bad_leader); bad];
+    schedule.extend((0..usual).map(|_| Office(random.below(opening.n.into()) as u8)));
+    Opening {
+        schedule,
+        ..opening
+    }
+}
+
 fn opening_of(random: &mut Random, n: u8, untrusted: usize) -> Opening {
     let mut offices: Vec<u8> = (0..n).collect();
     random.shuffle(&mut offices);

@@ -1,8 +1,8 @@
 //! What the generated logs bring: each refusal that a log can bring, in each
-//! step that can bring it, accepted steps of each kind, forks, and final chains
-//! that grow, stay or would go back.
+//! step that can bring it, accepted steps of each kind, forks, final chains that
+//! grow, stay or would go back, and chains that have just begun.
 
-use super::forks::{chains_after_fork, notarised_tips, register_after};
+use super::forks::{chain, chains_after_fork, notarised_tips, register_after};
 use skovarnek_compare::generate;
 use skovarnek_compare::packed::read_log;
 use skovarnek_compare::refusal::Refusal;
@@ -100,6 +100,22 @@ fn generated_logs_bring_forks() {
     }
 }
 
+/// Takes the steps of a log, if it reads, and leaves those that finalise to
+/// `finalise`.
+fn with_finalise_steps(log: &[u8], mut finalise: impl FnMut(&mut Register, Office, Block)) {
+    let Ok(log) = read_log(log) else {
+        return;
+    };
+    let mut register = Register::open(&log.opening).expect("a log that reads opens");
+    for step in &log.steps {
+        if let Step::Finalise { office, block } = *step {
+            finalise(&mut register, office, block);
+        } else {
+            let _ = register.step(step);
+        }
+    }
+}
+
 /// How many finalise steps do what to the final chain of their office.
 #[derive(Default)]
 struct Finalised {
@@ -114,20 +130,6 @@ struct Finalised {
 }
 
 impl Finalised {
-    fn count(&mut self, log: &[u8]) {
-        let Ok(log) = read_log(log) else {
-            return;
-        };
-        let mut register = Register::open(&log.opening).expect("a log that reads opens");
-        for step in &log.steps {
-            if let Step::Finalise { office, block } = *step {
-                self.finalise(&mut register, office, block);
-            } else {
-                let _ = register.step(step);
-            }
-        }
-    }
-
     /// Takes the step and counts it.
     fn finalise(&mut self, register: &mut Register, office: Office, block: Block) {
         let before = final_length(register, office);
@@ -158,7 +160,9 @@ fn final_length(register: &Register, office: Office) -> Option<usize> {
 fn generated_logs_bring_final_chains() {
     let mut found = Finalised::default();
     for seed in 0..4000 {
-        found.count(&generate::log(seed));
+        with_finalise_steps(&generate::log(seed), |register, office, block| {
+            found.finalise(register, office, block);
+        });
     }
     for (what, steps, least) in [
         ("refused with 32", found.behind, 1000),
@@ -168,5 +172,97 @@ fn generated_logs_bring_final_chains() {
     ] {
         println!("finalise {what}: {steps}");
         assert!(steps >= least, "finalise {what}: {steps}");
+    }
+}
+
+/// Finalise steps that name a block of a chain which has just begun, so that
+/// genesis is the oldest of the three, or nearly could be.
+#[derive(Clone, Copy, Debug, PartialEq, Eq, PartialOrd, Ord)]
+enum FromGenesis {
+    /// Epoch 2 on epoch 1 on genesis, accepted.
+    Final,
+    /// The same, refused with 32.
+    Behind,
+    /// The same, refused with 21: the upper block is notarised, the lower isn't.
+    LowerUnseen,
+    /// Epoch 2 directly on genesis, notarised, refused with 21.
+    Directly,
+    /// Epoch 3 on epoch 1 on genesis, a notarised chain, refused with 21.
+    Gap,
+    /// Epoch k+2 on epoch k+1 on genesis, where k is not 0: a notarised chain,
+    /// refused with 21.
+    Late,
+    /// Epoch 2 on epoch 1 on a block of epoch 0 on genesis, refused with 21. In
+    /// the view all untrusted offices have signed the three. There can't be more:
+    /// no trusted office signs a block of epoch 0, or one on it.
+    OnEpoch0,
+}
+
+impl FromGenesis {
+    /// Takes the step and says which of these it is, if it is one.
+    fn of_step(register: &mut Register, office: Office, block: Block) -> Option<FromGenesis> {
+        let refusal = match register.finalise(office, block) {
+            Ok(_) => None,
+            Err(refusal @ (Refusal::NotFinal | Refusal::Behind)) => Some(refusal),
+            Err(_) => return None,
+        };
+        let chain = chain(register, block);
+        let epoch = |&block: &Block| register.block(block).epoch.0;
+        let epochs: Vec<u16> = chain.iter().map(epoch).collect();
+        let view = register.view(office);
+        let notarised = view.is_notarised_chain(block);
+        match (refusal, &epochs[..]) {
+            (None, [0, 1, 2]) => Some(Self::Final),
+            (Some(Refusal::Behind), [0, 1, 2]) => Some(Self::Behind),
+            (Some(Refusal::NotFinal), [0, 1, 2]) => {
+                view.is_notarised(block).then_some(Self::LowerUnseen)
+            }
+            (Some(Refusal::NotFinal), [0, 2]) if notarised => Some(Self::Directly),
+            (Some(Refusal::NotFinal), [0, 1, 3]) if notarised => Some(Self::Gap),
+            (Some(Refusal::NotFinal), &[0, c, b]) if notarised && c > 1 && b == c + 1 => {
+                Some(Self::Late)
+            }
+            (Some(Refusal::NotFinal), [0, 0, 1, 2]) => {
+                signed_by_untrusted(register, office, &chain[1..]).then_some(Self::OnEpoch0)
+            }
+            _ => None,
+        }
+    }
+}
+
+/// Whether there are untrusted offices, and the signatures of all of them on
+/// all these blocks are in an office's view.
+fn signed_by_untrusted(register: &Register, office: Office, blocks: &[Block]) -> bool {
+    let offices = (0..register.n()).map(Office);
+    let untrusted: Vec<Office> = offices.filter(|&q| !register.is_trusted(q)).collect();
+    let view = register.view(office);
+    let signed = |&q: &Office| blocks.iter().all(|&block| view.has_signature(q, block));
+    !untrusted.is_empty() && untrusted.iter().all(signed)
+}
+
+/// In the generated logs runs of three have genesis as their oldest, and blocks
+/// are named that miss this narrowly.
+#[test]
+fn generated_logs_bring_chains_from_genesis() {
+    let mut found = BTreeMap::new();
+    for seed in 0..4000 {
+        with_finalise_steps(&generate::log(seed), |register, office, block| {
+            if let Some(shown) = FromGenesis::of_step(register, office, block) {
+                *found.entry(shown).or_default() += 1;
+            }
+        });
+    }
+    for (shown, least) in [
+        (FromGenesis::Final, 1400),
+        (FromGenesis::Behind, 370),
+        (FromGenesis::LowerUnseen, 50),
+        (FromGenesis::Directly, 1100),
+        (FromGenesis::Gap, 900),
+        (FromGenesis::Late, 380),
+        (FromGenesis::OnEpoch0, 600),
+    ] {
+        let steps: usize = found.get(&shown).copied().unwrap_or(0);
+        println!("finalise from genesis, {shown:?}: {steps}");
+        assert!(steps >= least, "finalise from genesis, {shown:?}: {steps}");
     }
 }

@@ -1,8 +1,9 @@
 //! The tests: hand-written cases, what the generated logs bring, what the logs
-//! to measure with are, that final chains never go back, the text form, the
-//! tool, and (feature `proved`) the comparison of both checkers and the proved
-//! program.
+//! to measure with are, that final chains agree and never go back, the text
+//! form, the tool, and (feature `proved`) the comparison of both checkers and
+//! the proved program.
 
+mod agreement;
 mod cases;
 mod coverage;
 mod forks;
