@@ -72,6 +72,26 @@ fn going_back_explained() {
     assert_eq!(lines[7..], wanted);
 }
 
+/// The finalise steps of the log, and what is final in the end.
+#[test]
+fn from_genesis_explained() {
+    let log = fs::read(sample("from-genesis.log")).expect("a log");
+    let explained = words(&logtool("explain", &log).stdout);
+    let lines = explained.lines().map(single_spaced);
+    let about_final = |line: &String| line.contains("finalise") || line.starts_with("office");
+    let lines: Vec<String> = lines.filter(about_final).collect();
+    let wanted = [
+        "4 21 0 finalise 1 1 not final: finalise condition unmet",
+        "13 0 1 finalise 1 2 accepted: block 1 is final",
+        "18 21 0 finalise 0 3 not final: finalise condition unmet",
+        "21 0 1 finalise 0 2 accepted: block 1 is final",
+        "office 0 1 1 final block 1, a chain of 1 block",
+        "office 1 1 1 final block 1, a chain of 1 block",
+        "office 2 0 0 nothing final but genesis",
+    ];
+    assert_eq!(lines, wanted);
+}
+
 /// Each sample log has its text and its report beside it.
 #[test]
 fn sample_logs() {
@@ -79,7 +99,7 @@ fn sample_logs() {
     let paths = files.map(|file| file.expect("a file").path());
     let is_log = |path: &PathBuf| path.extension().is_some_and(|end| end == "log");
     let logs: Vec<PathBuf> = paths.filter(is_log).collect();
-    assert!(logs.len() >= 5, "{logs:?}");
+    assert!(logs.len() >= 6, "{logs:?}");
     for path in logs {
         let beside = |end: &str| fs::read(path.with_extension(end)).expect("a file");
         let log = beside("log");
