@@ -11,13 +11,13 @@ use Rattle.words.specs.Tests.{both, member}
 use Rattle.words.specs.Sums.{tally, unit, weigh}
 use Rattle.words.proofs.Tests.{both-right, either-cases, any-at}
 use Rattle.words.proofs.Sums.{always, tally-always}
+use Rattle.quorum.proofs.Enough.{enough-least}
 use Rattle.quorum.proofs.Quorum.{quorum}
 use Rattle.register.specs.declared.book.Book.{Book}
 use Rattle.register.specs.Tables.{trusted, parentOf, epochOf}
 use Rattle.register.specs.Views.{inView, says, signed, notarised}
 use Rattle.register.specs.Chains.{chain, chainLength, chainNotarised}
 use Rattle.register.proofs.Chains.{epoch-genesis, length-step, long-made, last-notarised, last-later, notarised-on, Ancestor, ancestor}
-use Rattle.quorum.proofs.Enough.{enough-least}
 use Rattle.register.proofs.Finalising.{Consecutive, middle-notarised, oldest-notarised}
 use Rattle.agreement.proofs.Safety.{Signature, Ordered, same, before, after, Safe, signature}
 
@@ -65,8 +65,8 @@ module _ {r : Book} (safe : Safe r) where
   ordered-later (before b) h = b .earlier
   ordered-later (after b) h = absurd (omega (arith, b .shorter))
 
-  -- Of two notarised chains the longer one ends in the later epoch. The shorter one may be that of genesis, whose epoch is below every other on a
-  -- valid chain.
+  -- Of two notarised chains the longer one ends in the later epoch. Where the shorter one is that of genesis, this is because a valid chain's epochs grow
+  -- from 0 on.
   longer-later : (p q x y : ℕ) → chainNotarised r p x ≡ true → chainNotarised r q y ≡ true → chainLength r x < chainLength r y
       → epochOf r x < epochOf r y
   longer-later p q x y nx ny longer =
@@ -93,5 +93,6 @@ module _ {r : Book} (safe : Safe r) where
       (omega (arith, three .one-later, three .two-later)) in
       subst⁻¹ (λ (y : ℕ). member y (chain r e) ≡ true) is-c (peer .on-chain)
     where
+      -- a chain is one longer than that of its last block's parent
       one-longer : {b c : ℕ} → 0 < b → parentOf r b ≡ c → chainLength r b ≡ suc (chainLength r c)
       one-longer {b} pos e = length-step r b pos ∙ ap (λ (y : ℕ). suc (chainLength r y)) e

@@ -7,7 +7,7 @@ use mathlib.Core.Logic.{⊎-elim}
 use native.Mathlib.Omega.{arith}
 use native.Mathlib.Decide.{ℕ-discrete}
 use borrow.Author.Tests.{eq-eqb, eqb-true, ltb-true}
-use lib.Dec.{eqb, ltb}
+use lib.Dec.{eqb}
 use lib.ListN.{length}
 use Rattle.words.specs.Tests.{choose, both, every, member}
 use Rattle.words.proofs.Tests.{both-left, both-right, both-make, either-cases, either-left, either-right, clash, every-at}
@@ -65,12 +65,12 @@ long-made r zero h = absurd (omega (arith, length-genesis r))
 long-made r (suc b) h = omega arith
 
 -- a block is on its own chain
-pub on-own-chain : (r : Book) (b : ℕ) → 0 < b → member b (chain r b) ≡ true
+on-own-chain : (r : Book) (b : ℕ) → 0 < b → member b (chain r b) ≡ true
 unfolding member
 on-own-chain r b h = rw (chain-step r b h) (either-left (eqb b b) (member b (chain r (parentOf r b))) (eq-eqb b b refl))
 
 -- a block on the parent's chain is on the block's
-pub on-longer-chain : (r : Book) (b x : ℕ) → 0 < b → member x (chain r (parentOf r b)) ≡ true → member x (chain r b) ≡ true
+on-longer-chain : (r : Book) (b x : ℕ) → 0 < b → member x (chain r (parentOf r b)) ≡ true → member x (chain r b) ≡ true
 unfolding member
 on-longer-chain r b x h m = rw (chain-step r b h) (either-right (eqb x b) (member x (chain r (parentOf r b))) m)
 
@@ -84,8 +84,7 @@ every-parent r p b h e =
 pub notarised-parent : (r : Book) (q b : ℕ) → 0 < b → chainNotarised r q b ≡ true → chainNotarised r q (parentOf r b) ≡ true
 unfolding chainNotarised
 notarised-parent r q b h n =
-    both-make _ _ (every-parent r (λ x. ltb (epochOf r (parentOf r x)) (epochOf r x)) b h (both-left _ _ n))
-    (every-parent r (notarised r q) b h (both-right _ _ n))
+    both-make _ _ (every-parent r _ b h (both-left _ _ n)) (every-parent r _ b h (both-right _ _ n))
 
 -- the chain of genesis is notarised in every view
 pub genesis-notarised : (r : Book) (q : ℕ) → chainNotarised r q 0 ≡ true
@@ -95,14 +94,12 @@ genesis-notarised r q = rw (chain-genesis r)
 -- the last block of a notarised chain is notarised
 pub last-notarised : (r : Book) (q b : ℕ) → 0 < b → chainNotarised r q b ≡ true → notarised r q b ≡ true
 unfolding chainNotarised
-last-notarised r q b h n = every-at (notarised r q) (chain r b) b (both-right _ _ n) (on-own-chain r b h)
+last-notarised r q b h n = every-at _ (chain r b) b (both-right _ _ n) (on-own-chain r b h)
 
 -- and its epoch is later than its parent's
 pub last-later : (r : Book) (q b : ℕ) → 0 < b → chainNotarised r q b ≡ true → epochOf r (parentOf r b) < epochOf r b
 unfolding chainNotarised
-last-later r q b h n =
-    ltb-true _ _
-    (every-at (λ x. ltb (epochOf r (parentOf r x)) (epochOf r x)) (chain r b) b (both-left _ _ n) (on-own-chain r b h))
+last-later r q b h n = ltb-true _ _ (every-at _ (chain r b) b (both-left _ _ n) (on-own-chain r b h))
 
 -- what passes from every block to its parent passes from a block to all on its chain
 on-chain-down : (r : Book) (P : ℕ → Type 0) → ((b : ℕ) → 0 < b → P b → P (parentOf r b)) → (x b : ℕ)

@@ -14,7 +14,7 @@ use Rattle.register.specs.Chains.{chainNotarised}
 use Rattle.register.specs.Refusals.{consecutive, finalises}
 use Rattle.register.proofs.Chains.{notarised-parent}
 
--- block b, its parent c and c's parent d have consecutive epochs, of which d alone may be genesis, and b's chain is notarised
+-- block b, its parent c and c's parent d have consecutive epochs, d alone may be genesis, and b's chain is notarised
 pub record Consecutive (r : Book) (q b c d : ℕ) : Type 0 where
   pub parent : parentOf r b ≡ c
   pub grandparent : parentOf r c ≡ d
@@ -24,12 +24,13 @@ pub record Consecutive (r : Book) (q b c d : ℕ) : Type 0 where
   pub two-later : epochOf r b ≡ epochOf r d + 2
   pub chain : chainNotarised r q b ≡ true
 
--- so are the chains of the two others
 module _ {r : Book} {q b c d : ℕ} (three : Consecutive r q b c d) where
+  -- then c's chain is notarised too
   pub middle-notarised : chainNotarised r q c ≡ true
   middle-notarised =
       subst (λ (x : ℕ). chainNotarised r q x ≡ true) (three .parent) (notarised-parent r q b (three .newest) (three .chain))
 
+  -- and d's
   pub oldest-notarised : chainNotarised r q d ≡ true
   oldest-notarised =
       subst (λ (x : ℕ). chainNotarised r q x ≡ true) (three .grandparent) (notarised-parent r q c (three .middle) middle-notarised)
@@ -58,6 +59,7 @@ three-blocks r q b h =
 module _ (r : Book) (q b c d : ℕ) (t : Bool) (parent : c ≡ parentOf r b) (grandparent : d ≡ parentOf r c)
     (three : t ≡ consecutive (epochOf r) b c d)
   where
+    -- so the condition is that test and the chain's
     finalises-by : finalises r q b ≡ both t (chainNotarised r q b)
     unfolding finalises
     finalises-by = rw (three, grandparent, parent)
