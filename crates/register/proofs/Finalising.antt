@@ -20,8 +20,8 @@ pub record Consecutive (r : Book) (q b c d : ℕ) : Type 0 where
   pub grandparent : parentOf r c ≡ d
   pub newest : 0 < b
   pub middle : 0 < c
-  pub one-later : epochOf r c ≡ epochOf r d + 1
   pub two-later : epochOf r b ≡ epochOf r d + 2
+  pub one-later : epochOf r c ≡ epochOf r d + 1
   pub chain : chainNotarised r q b ≡ true
 
 module _ {r : Book} {q b c d : ℕ} (three : Consecutive r q b c d) where
@@ -50,8 +50,8 @@ three-blocks r q b h =
       grandparent = refl;
       newest = positive _ (all .0);
       middle = positive _ (all .1 .0);
-      one-later = eqb-true _ _ (all .1 .1 .0);
-      two-later = eqb-true _ _ (all .1 .1 .1 .0);
+      two-later = eqb-true _ _ (all .1 .1 .0);
+      one-later = eqb-true _ _ (all .1 .1 .1 .0);
       chain = both-right _ _ h;
     }
 

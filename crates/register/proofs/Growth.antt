@@ -139,7 +139,7 @@ module _ {r s : Book} (g : Grows r s) where
         grandparent = parent-kept c lc ∙ t .grandparent;
         newest = t .newest;
         middle = t .middle;
-        one-later = omega (arith, epoch-kept c lc, epoch-kept d ld, t .one-later);
         two-later = omega (arith, epoch-kept b l, epoch-kept d ld, t .two-later);
+        one-later = omega (arith, epoch-kept c lc, epoch-kept d ld, t .one-later);
         chain = chain-notarised-kept q b l (t .chain);
       }

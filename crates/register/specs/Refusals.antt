@@ -61,14 +61,9 @@ abbrev pub epochs : (epoch : ℕ) → (parentEpoch : ℕ) → Bool
 epochs epoch parentEpoch = leb epoch parentEpoch
 
 -- three consecutive blocks: b and c are not genesis, and the epochs of b, c and d are k + 2, k + 1 and k. The oldest, d, may be genesis, of epoch 0.
-unfoldable pub consecutive : (epochOf : ℕ → ℕ) → (b c d : ℕ) → Bool
-consecutive epochOf b c d =
-    conj
-    (not (eqb b 0)
-    ∷ not (eqb c 0)
-    ∷ eqb (epochOf c) (epochOf d + 1)
-    ∷ eqb (epochOf b) (epochOf d + 2)
-    ∷ [])
+unfoldable pub consecutive : (epoch : ℕ → ℕ) → (b c d : ℕ) → Bool
+consecutive epoch b c d =
+    conj (not (eqb b 0) ∷ not (eqb c 0) ∷ eqb (epoch b) (epoch d + 2) ∷ eqb (epoch c) (epoch d + 1) ∷ [])
 
 -- block b, its parent c and c's parent d are consecutive, and b's chain is notarised in the office's view
 unfoldable pub finalises : Book → ℕ → ℕ → Bool

@@ -30,7 +30,7 @@ fn are_consecutive<'a>(epochs: &'a Epochs, last: Block, b: Block, c: Block, d: B
     let newest = tables::epoch_at(epochs, last.0, b.0) as u32;
     let middle = tables::epoch_at(epochs, last.0, c.0) as u32;
     let oldest = tables::epoch_at(epochs, last.0, d.0) as u32;
-    (b.0 != 0) & (c.0 != 0) & (middle == oldest + 1) & (newest == oldest + 2)
+    (b.0 != 0) & (c.0 != 0) & (newest == oldest + 2) & (middle == oldest + 1)
 }
 
 // The condition for finalising, of a trusted office in whose view the base's chain is notarised. The messages are read only where the epochs
