@@ -35,6 +35,12 @@ use Rattle.agreement.proofs.Consequences.{never-back}
 abbrev message : ℕ → Message
 message m = record { 0 = m }
 
+-- their openings are not refused: three offices, all trusted, and two epochs, led by 0 and 1; four offices, of which office 3 is not trusted, and five
+-- epochs, led by 3, 2, 1, 2 and 1
+pub runs-open : (opening 3 7 (0 ∷ 1 ∷ []) .refusal ≡ 0) × (opening 4 7 (3 ∷ 2 ∷ 1 ∷ 2 ∷ 1 ∷ []) .refusal ≡ 0)
+unfolding opening openingRefusal first choose both either between any stray tooMany untrusted tally weigh unit digit
+runs-open = (refl, refl)
+
 -- the steps of a run in which genesis is the oldest of three consecutive blocks
 unfoldable pub start-steps : List Step
 start-steps =
@@ -58,13 +64,9 @@ start-steps =
     ∷ Step.Register (office 1) (message 3)
     ∷ []
 
--- three offices, all trusted, and two epochs, led by 0 and 1
-pub start-opens : opening 3 7 (0 ∷ 1 ∷ []) .refusal ≡ 0
-unfolding opening openingRefusal first choose both either between any stray tooMany untrusted tally weigh unit digit
-start-opens = refl
-
+-- the run that starts from genesis
 unfoldable pub start : Run
-start = record { n = 3; trust = 7; schedule = 0 ∷ 1 ∷ []; accepted = start-opens; steps = start-steps }
+start = record { n = 3; trust = 7; schedule = 0 ∷ 1 ∷ []; accepted = runs-open .0; steps = start-steps }
 
 -- what the run shows: every step is accepted but the one that names a block directly on genesis, which gets 21; at moment 11 office 0's final chain is
 -- that of block 1; and at moment 13 the longer chain of block 2 is notarised in office 1's view
@@ -94,7 +96,7 @@ fork-steps =
     ∷ Step.Deliver (message 3) (office 0)
     ∷ Step.Register (office 0) (message 3)
     ∷ Step.Advance
-    -- epoch 2: office 2, which has heard of no notarised block, proposes block 3 on genesis; office 1 and office 3 vote for it, and 1 and 2 see it notarised
+    -- epoch 2: office 2, which has heard of no notarised block, proposes block 3 on genesis; offices 1 and 3 vote for it, and 1 and 2 see it notarised
     ∷ Step.Propose (office 2) (block 0) 3
     ∷ Step.Deliver (message 5) (office 1)
     ∷ Step.Vote (office 1) (message 5)
@@ -149,13 +151,9 @@ fork-steps =
     ∷ Step.Finalise (office 2) (block 6)
     ∷ []
 
--- four offices, of which office 3 is not trusted, and five epochs, led by 3, 2, 1, 2 and 1
-pub fork-opens : opening 4 7 (3 ∷ 2 ∷ 1 ∷ 2 ∷ 1 ∷ []) .refusal ≡ 0
-unfolding opening openingRefusal first choose both either between any stray tooMany untrusted tally weigh unit digit
-fork-opens = refl
-
+-- the run with a fork
 unfoldable pub fork : Run
-fork = record { n = 4; trust = 7; schedule = 3 ∷ 2 ∷ 1 ∷ 2 ∷ 1 ∷ []; accepted = fork-opens; steps = fork-steps }
+fork = record { n = 4; trust = 7; schedule = 3 ∷ 2 ∷ 1 ∷ 2 ∷ 1 ∷ []; accepted = runs-open .1; steps = fork-steps }
 
 -- what the run shows: every step is accepted but the one that names block 4 too early, which gets 21, and the one that would go back, which gets 32; at
 -- moment 47 office 2's final chain is that of block 4, and at the end that of block 5; before, at moment 42, the longer chain of block 5 is notarised in

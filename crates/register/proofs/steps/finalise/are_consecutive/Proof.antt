@@ -10,7 +10,7 @@ unfolding consecutive
 returns c =
     let at = c .before .before in
     rw (at .before .before .epoch-at .ensures, at .before .epoch-at2 .ensures, at .epoch-at3 .ensures)
-    (and-four _ _ _ _)
+    (simp and-four)
 
 pub are-consecutive-spec : {M : Type 1} → statement M
 are-consecutive-spec =
