@@ -1,10 +1,10 @@
 -- Two runs of which the premises of the claims hold: they speak of them, and say something. One starts from genesis, the other has a fork and a bad
 -- leader. All that is told of them is computed from the rules.
-use Prim.Native.Nat.{ℕ}
+use Prim.Native.Nat.{ℕ, _≤_}
 use mathlib.Core.Path.{_≡_, refl}
 use mathlib.Core.List.{List, [], _∷_, _++_, map}
 use native.Mathlib.Omega.{arith}
-use lib.ListN.{replicate}
+use lib.ListN.{length, replicate}
 use Rattle.words.specs.Tests.{choose, both, either, between, conj, all, any, lowest, every, member}
 use Rattle.words.specs.Sums.{tally, weigh, unit}
 use Rattle.words.specs.Digits.{digit, fill, withMember, withStage}
@@ -14,6 +14,8 @@ use Rattle.quorum.specs.Opening.{untrusted, tooMany, stray, openingRefusal}
 use Rattle.tables.specs.Blocks.{trustedIn, madeIn, parentIn, epochIn, matchesIn, namedIn}
 use Rattle.tables.specs.Messages.{saysIn}
 use Rattle.tables.specs.Chains.{climb, chainBy}
+use Rattle.register.specs.declared.sorts.Office.{Office}
+use Rattle.register.specs.declared.sorts.Block.{Block}
 use Rattle.register.specs.declared.sorts.Message.{Message}
 use Rattle.register.specs.declared.sorts.Kind.{Kind}
 use Rattle.register.specs.declared.step.Step.{Step}
@@ -35,8 +37,33 @@ use Rattle.agreement.proofs.Consequences.{never-back}
 abbrev message : ℕ → Message
 message m = record { 0 = m }
 
--- their openings are not refused: three offices, all trusted, and two epochs, led by 0 and 1; four offices, of which office 3 is not trusted, and five
--- epochs, led by 3, 2, 1, 2 and 1
+-- what is seen of agreement in a run: an office's final chain at a moment, and a chain that is notarised in an office's view at a moment
+pub record Seen (run : Run) (i j : ℕ) (p q : Office) (e : Block) (final notarised : List ℕ) : Type 0 where
+  pub finalist : Trusted (moment run i) p
+  pub is-final : finalChain (moment run i) p ≡ final
+  pub viewer : Trusted (moment run j) q
+  pub is-notarised : Notarised (moment run j) q e
+  pub is-chain : chainOf (moment run j) e ≡ notarised
+
+-- where the notarised chain is at least as long, the premises of agreement hold
+premises : {run : Run} {i j : ℕ} {p q : Office} {e : Block} {final notarised : List ℕ} → Seen run i j p q e final notarised
+    → length final ≤ length notarised → AtLeastAsLong run i j p q e
+premises seen long =
+    record {
+      finalist = seen .finalist;
+      viewer = seen .viewer;
+      notarised = seen .is-notarised;
+      long = rw (seen .is-final, seen .is-chain) long;
+    }
+
+-- and agreement says that the final chain begins the notarised one
+agrees : {run : Run} {i j : ℕ} {p q : Office} {e : Block} {final notarised : List ℕ} → Seen run i j p q e final notarised
+    → AtLeastAsLong run i j p q e → Begins final notarised
+unfolding Agreement
+agrees {run} {i} {j} {p} {q} {e} seen holds = rw (seen .is-final, seen .is-chain) at (agreement run i j p q e holds)
+
+-- the openings of the two runs are not refused: three offices, all trusted, and two epochs, led by 0 and 1; four offices, of which office 3 is not
+-- trusted, and five epochs, led by 3, 2, 1, 2 and 1
 pub runs-open : (opening 3 7 (0 ∷ 1 ∷ []) .refusal ≡ 0) × (opening 4 7 (3 ∷ 2 ∷ 1 ∷ 2 ∷ 1 ∷ []) .refusal ≡ 0)
 unfolding opening openingRefusal first choose both either between any stray tooMany untrusted tally weigh unit digit
 runs-open = (refl, refl)
@@ -72,11 +99,7 @@ start = record { n = 3; trust = 7; schedule = 0 ∷ 1 ∷ []; accepted = runs-op
 -- that of block 1; and at moment 13 the longer chain of block 2 is notarised in office 1's view
 pub record Started : Type 0 where
   pub refusals : map (λ (s : Stepped). s .refusal) (answers (opened start) (start .steps)) ≡ replicate 5 0 ++ (21 ∷ replicate 7 0)
-  pub finalist : Trusted (moment start 11) (office 0)
-  pub final : finalChain (moment start 11) (office 0) ≡ 1 ∷ []
-  pub viewer : Trusted (moment start 13) (office 1)
-  pub notarised : Notarised (moment start 13) (office 1) (block 2)
-  pub longer : chainOf (moment start 13) (block 2) ≡ 2 ∷ 1 ∷ []
+  pub seen : Seen start 11 13 (office 0) (office 1) (block 2) (1 ∷ []) (2 ∷ 1 ∷ [])
 
 -- the steps of the run with a fork, epoch by epoch
 unfoldable pub fork-steps : List Step
@@ -161,12 +184,8 @@ fork = record { n = 4; trust = 7; schedule = 3 ∷ 2 ∷ 1 ∷ 2 ∷ 1 ∷ []; a
 pub record Forked : Type 0 where
   pub refusals : map (λ (s : Stepped). s .refusal) (answers (opened fork) (fork .steps))
       ≡ replicate 34 0 ++ (21 ∷ replicate 20 0 ++ (32 ∷ 0 ∷ []))
-  pub finalist : Trusted (moment fork 47) (office 2)
-  pub final : finalChain (moment fork 47) (office 2) ≡ 4 ∷ 3 ∷ []
+  pub seen : Seen fork 47 42 (office 2) (office 1) (block 5) (4 ∷ 3 ∷ []) (5 ∷ 4 ∷ 3 ∷ [])
   pub later : finalChain (moment fork 57) (office 2) ≡ 5 ∷ 4 ∷ 3 ∷ []
-  pub viewer : Trusted (moment fork 42) (office 1)
-  pub notarised : Notarised (moment fork 42) (office 1) (block 5)
-  pub longer : chainOf (moment fork 42) (block 5) ≡ 5 ∷ 4 ∷ 3 ∷ []
   pub other : Trusted (moment fork 47) (office 0)
   pub forked : Notarised (moment fork 47) (office 0) (block 1)
   pub shorter : chainOf (moment fork 47) (block 1) ≡ 1 ∷ []
@@ -175,19 +194,8 @@ pub record Forked : Type 0 where
 pub runs-show : Started × Forked
 unfolding finalChain chainOf Trusted Notarised moment start start-steps fork fork-steps answers afterSteps stepRule bookOf registerOf opened opening fresh openingRefusal untrusted tooMany stray choose both either between conj all any lowest every tally weigh unit digit fill withMember withStage first enough trustedIn madeIn parentIn epochIn matchesIn namedIn saysIn climb chainBy isVote stage signed notarised chain chainNotarised longest countsFit blockFits messageFits stateFits fit consecutive finalises leaderTable blank freshBook withBlock withNamed sentStage withSent withMoved withActed withState withNextEpoch ruleOf refusal judged bookRule
 runs-show = (
-  record { refusals = refl; finalist = refl; final = refl; viewer = refl; notarised = refl; longer = refl },
-  record {
-    refusals = refl;
-    finalist = refl;
-    final = refl;
-    later = refl;
-    viewer = refl;
-    notarised = refl;
-    longer = refl;
-    other = refl;
-    forked = refl;
-    shorter = refl;
-  },
+  record { refusals = refl; seen = record { finalist = refl; is-final = refl; viewer = refl; is-notarised = refl; is-chain = refl } },
+  record { refusals = refl; seen = record { finalist = refl; is-final = refl; viewer = refl; is-notarised = refl; is-chain = refl }; later = refl; other = refl; forked = refl; shorter = refl },
 )
 
 pub start-shows : Started
@@ -198,40 +206,26 @@ fork-shows = runs-show .1
 
 -- so the premises of agreement hold, of two offices and two moments, where genesis is the oldest of the three
 pub start-run : AtLeastAsLong start 11 13 (office 0) (office 1) (block 2)
-start-run =
-    record {
-      finalist = start-shows .finalist;
-      viewer = start-shows .viewer;
-      notarised = start-shows .notarised;
-      long = rw (start-shows .final, start-shows .longer) (omega arith);
-    }
+start-run = premises (start-shows .seen) (omega arith)
 
--- and agreement says that the final chain begins the longer one
+-- and the final chain begins the longer one
 pub start-agrees : Begins (1 ∷ []) (2 ∷ 1 ∷ [])
-unfolding Agreement
-start-agrees = rw (start-shows .final, start-shows .longer) at (agreement start 11 13 (office 0) (office 1) (block 2) start-run)
+start-agrees = agrees (start-shows .seen) start-run
 
 -- they hold where there is a fork
 pub fork-run : AtLeastAsLong fork 47 42 (office 2) (office 1) (block 5)
-fork-run =
-    record {
-      finalist = fork-shows .finalist;
-      viewer = fork-shows .viewer;
-      notarised = fork-shows .notarised;
-      long = rw (fork-shows .final, fork-shows .longer) (omega arith);
-    }
+fork-run = premises (fork-shows .seen) (omega arith)
 
 -- and the final chain begins the longer one
 pub fork-agrees : Begins (4 ∷ 3 ∷ []) (5 ∷ 4 ∷ 3 ∷ [])
-unfolding Agreement
-fork-agrees = rw (fork-shows .final, fork-shows .longer) at (agreement fork 47 42 (office 2) (office 1) (block 5) fork-run)
+fork-agrees = agrees (fork-shows .seen) fork-run
 
 -- It does not begin the chain that forks off, though that is notarised in a trusted office's view: of shorter chains the claim would be false.
 pub fork-parts : Begins (finalChain (moment fork 47) (office 2)) (chainOf (moment fork 47) (block 1)) → ⊥
 unfolding Begins begins member either
-fork-parts = rw (fork-shows .final, fork-shows .shorter) (λ b. let never : _≡_ {A = ℕ} 0 1 = cc in omega arith)
+fork-parts = rw (fork-shows .seen .is-final, fork-shows .shorter) (λ b. let never : _≡_ {A = ℕ} 0 1 = cc in omega arith)
 
 -- And office 2's final chain never goes back: that of moment 47 begins that of moment 57.
 pub fork-goes-on : Begins (4 ∷ 3 ∷ []) (5 ∷ 4 ∷ 3 ∷ [])
 unfolding NeverBack
-fork-goes-on = rw (fork-shows .final, fork-shows .later) at (never-back fork 47 57 (office 2) (omega arith) (fork-shows .finalist))
+fork-goes-on = rw (fork-shows .seen .is-final, fork-shows .later) at (never-back fork 47 57 (office 2) (omega arith) (fork-shows .seen .finalist))
