@@ -8,6 +8,8 @@ mod steps;
 mod view;
 
 #[cfg(test)]
+mod any_fit;
+#[cfg(test)]
 mod by_hand;
 
 pub use numbers::{Block, Epoch, GENESIS, Message, Office};

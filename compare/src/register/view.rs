@@ -32,16 +32,21 @@ impl Register {
 }
 
 impl View<'_> {
+    /// The different signers of a block as a word: bit q for office q.
+    pub fn signers(&self, block: Block) -> u32 {
+        self.signers[block.index()]
+    }
+
     /// Office q's signature on b is in a view if a message there has signer q
     /// and block b, whatever its kind.
     pub fn has_signature(&self, q: Office, b: Block) -> bool {
-        self.signers[b.index()] >> q.0 & 1 == 1
+        self.signers(b) >> q.0 & 1 == 1
     }
 
     /// A block is notarised if its different signers are a quorum; genesis
     /// always is.
     pub fn is_notarised(&self, block: Block) -> bool {
-        let signers = self.signers[block.index()].count_ones();
+        let signers = self.signers(block).count_ones();
         block == GENESIS || is_quorum(signers, self.register.n())
     }
 

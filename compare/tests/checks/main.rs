@@ -1,7 +1,7 @@
 //! The tests: hand-written cases, what the generated logs bring, what the logs
-//! to measure with are, that final chains agree and never go back, the text
-//! form, the tool, and (feature `proved`) the comparison of both checkers and
-//! the proved program.
+//! to measure with are, that final chains agree and never go back, who has
+//! signed a block, the text form, the tool, and (feature `proved`) the comparison
+//! of both checkers and the proved program.
 
 mod agreement;
 mod cases;
@@ -15,6 +15,7 @@ mod program;
 #[cfg(feature = "proved")]
 mod proved;
 mod registers;
+mod signers;
 mod text;
 
 /// How many generated logs the tests look at, and the first seed.
