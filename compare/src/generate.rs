@@ -7,6 +7,7 @@ mod full;
 mod heavy;
 mod noise;
 mod openings;
+mod quorums;
 mod random;
 mod run;
 mod sensible;
@@ -15,7 +16,7 @@ pub use heavy::{Row, rows};
 pub use random::Random;
 
 /// The log of a seed: a sensible run, two chains that grow in turn, random
-/// steps, full tables, first blocks or damage.
+/// steps, full tables, first blocks, blocks with just enough signers or damage.
 pub fn log(seed: u64) -> Vec<u8> {
     let mut random = Random::new(seed);
     match random.below(100) {
@@ -24,6 +25,7 @@ pub fn log(seed: u64) -> Vec<u8> {
         45..60 => noise::run(random).log(),
         60..66 => full::run(random).log(),
         66..71 => beginnings::run(random).log(),
+        71..77 => quorums::run(random).log(),
         _ => damage::log(random),
     }
 }

@@ -41,6 +41,27 @@ pub fn opening_led_by_bad(random: &mut Random, bad: usize, usual: usize) -> Open
     }
 }
 
+/// An opening of 4 offices or more, often 32, in which any offices lead so many
+/// epochs.
+pub fn opening_of_many(random: &mut Random, epochs: usize) -> Opening {
+    let n = match random.chance(50) {
+        true => MOST_OFFICES,
+        false => random.between(4, MOST_OFFICES.into()) as u8,
+    };
+    let most_untrusted = usize::from((n - 1) / 3);
+    let untrusted = match random.below(4) {
+        0 => 0,
+        1 => random.below(most_untrusted + 1),
+        _ => most_untrusted,
+    };
+    let leader = |_| Office(random.below(n.into()) as u8);
+    let schedule = (0..epochs).map(leader).collect();
+    Opening {
+        schedule,
+        ..opening_of(random, n, untrusted)
+    }
+}
+
 fn opening_of(random: &mut Random, n: u8, untrusted: usize) -> Opening {
     let mut offices: Vec<u8> = (0..n).collect();
     random.shuffle(&mut offices);

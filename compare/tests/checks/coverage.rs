@@ -1,12 +1,14 @@
 //! What the generated logs bring: each refusal that a log can bring, in each
 //! step that can bring it, accepted steps of each kind, forks, final chains that
-//! grow, stay or would go back, and chains that have just begun.
+//! grow, stay or would go back, chains that have just begun, and steps that are
+//! decided by one signer.
 
+use super::decided::Decision;
 use super::forks::{chain, chains_after_fork, notarised_tips, register_after};
 use skovarnek_compare::generate;
 use skovarnek_compare::packed::read_log;
 use skovarnek_compare::refusal::Refusal;
-use skovarnek_compare::register::{Block, Office, Register, Step};
+use skovarnek_compare::register::{Block, Kind, Office, Place, Register, Step};
 use skovarnek_compare::text::step_word;
 use std::collections::BTreeMap;
 
@@ -264,5 +266,88 @@ fn generated_logs_bring_chains_from_genesis() {
         let steps: usize = found.get(&shown).copied().unwrap_or(0);
         println!("finalise from genesis, {shown:?}: {steps}");
         assert!(steps >= least, "finalise from genesis, {shown:?}: {steps}");
+    }
+}
+
+/// How many propose, vote and finalise steps are decided by what.
+#[derive(Default)]
+struct Decided {
+    /// By office, the steps with another answer if one signature of it were not
+    /// in the view.
+    by_office: [usize; 32],
+    /// Accepted as far as the view goes, by just enough signers of some block.
+    just_enough: usize,
+    /// Refused with 19 or 21 for want of one signature.
+    one_too_few: usize,
+    /// With another answer if the messages in the inbox counted.
+    by_inbox: usize,
+    /// With another answer if all sent messages counted.
+    by_history: usize,
+    /// With another answer if only votes counted.
+    by_proposals: usize,
+}
+
+impl Decided {
+    fn count(&mut self, decision: &Decision) {
+        let deciders = decision.deciders();
+        for (office, steps) in self.by_office.iter_mut().enumerate() {
+            *steps += (deciders >> office & 1) as usize;
+        }
+        let hit = |condition: bool| usize::from(condition);
+        self.just_enough += hit(decision.holds && deciders != 0);
+        self.one_too_few += hit(!decision.holds && decision.wants_one());
+        let in_hand = [Place::Inbox, Place::View];
+        self.by_inbox += hit(decision.differs_if(|place, _| in_hand.contains(&place)));
+        self.by_history += hit(decision.differs_if(|_, _| true));
+        let vote = |place, kind| place == Place::View && kind == Kind::Vote;
+        self.by_proposals += hit(decision.differs_if(vote));
+    }
+}
+
+/// Counts the steps of a log, if it reads. Each has the answer that the signers
+/// in the view give.
+fn count_decided(log: &[u8], found: &mut Decided) {
+    let Ok(log) = read_log(log) else {
+        return;
+    };
+    let mut register = Register::open(&log.opening).expect("a log that reads opens");
+    for step in &log.steps {
+        if matches!(step.kind(), 1 | 2 | 4) {
+            let before = register.clone();
+            let answer = register.step(step);
+            if let Some(decision) = Decision::of_step(&before, step, answer) {
+                let no = [Err(Refusal::NotLongest), Err(Refusal::NotFinal)];
+                assert_eq!(decision.holds, !no.contains(&answer), "{step:?}");
+                found.count(&decision);
+            }
+        } else {
+            let _ = register.step(step);
+        }
+    }
+}
+
+/// In the generated logs each office is a signer who decides, and messages that
+/// don't count would often decide if they did. That messages counted in place of
+/// signers would decide can't be brought: 18 keeps a second message of a signer
+/// about a block out of a view.
+#[test]
+fn generated_logs_bring_deciding_signers() {
+    let mut found = Decided::default();
+    for seed in 0..4000 {
+        count_decided(&generate::log(seed), &mut found);
+    }
+    for (what, steps, least) in [
+        ("just enough", found.just_enough, 45_000),
+        ("one too few", found.one_too_few, 4_800),
+        ("decided by the inbox", found.by_inbox, 5_000),
+        ("decided by the history", found.by_history, 54_000),
+        ("decided by proposals", found.by_proposals, 49_000),
+    ] {
+        println!("steps {what}: {steps}");
+        assert!(steps >= least, "steps {what}: {steps}");
+    }
+    for (office, steps) in found.by_office.into_iter().enumerate() {
+        println!("steps decided by office {office}: {steps}");
+        assert!(steps >= 5_700, "steps decided by office {office}: {steps}");
     }
 }

@@ -6,6 +6,7 @@
 mod agreement;
 mod cases;
 mod coverage;
+mod decided;
 mod forks;
 mod heavy;
 mod logtool;
