@@ -4,6 +4,7 @@ mod chain;
 mod crowded;
 mod dear;
 mod fork;
+mod offices;
 mod tables;
 
 use super::random::Random;
@@ -45,6 +46,7 @@ pub fn rows() -> Vec<Row> {
         row("votes, full tables", chain::votes(), VOTE, SEARCHED, 80),
         row("votes on a fork", fork::votes(), VOTE, &[26], 85),
         row("the dearest votes", dear::votes(), VOTE, &[26], 85),
+        row("votes, 32 offices", offices::votes(), VOTE, &[26], 50),
         row("proposals refused with 19", chain::proposals(), PROPOSE, &[19], 75),
         row("proposals on a fork", fork::proposals(), PROPOSE, &[25], 80),
         row("the growing of a fork", fork::growing(), ANY, &[0], 100),

@@ -5,7 +5,7 @@ use skovarnek_compare::check;
 use skovarnek_compare::generate::{Row, rows};
 use skovarnek_compare::packed::read_log;
 use skovarnek_compare::register::{Block, Message, Office, Place, Register, Step};
-use std::collections::BTreeMap;
+use std::collections::{BTreeMap, BTreeSet};
 use std::sync::LazyLock;
 
 /// A row's name, the bytes and steps of its log, and how many steps of the
@@ -13,11 +13,12 @@ use std::sync::LazyLock;
 type Counts = (&'static str, usize, usize, &'static [(usize, usize)]);
 
 #[rustfmt::skip]
-const COUNTS: [Counts; 15] = [
+const COUNTS: [Counts; 16] = [
     ("deliveries", 65_535, 27_374, &[]),
     ("votes, full tables", 65_536, 27_483, &[(26, 23_661)]),
     ("votes on a fork", 65_536, 27_375, &[(26, 24_345)]),
     ("the dearest votes", 65_536, 27_429, &[(26, 23_629)]),
+    ("votes, 32 offices", 65_535, 27_384, &[(26, 14_514)]),
     ("proposals refused with 19", 65_535, 17_364, &[(19, 13_807)]),
     ("proposals on a fork", 65_533, 16_961, &[(25, 14_206)]),
     ("the growing of a fork", 6_910, 2_750, &[]),
@@ -141,6 +142,33 @@ fn dearest_votes_read_all_messages() {
         for office in register.trusted_offices() {
             let seen = |&message: &Message| register.place(message, office) == Place::View;
             assert!(chunk.iter().any(seen));
+        }
+    }
+}
+
+/// All 32 offices are trusted, and the tables are full. 21 offices vote in turn.
+/// Each sees a chain of 12 blocks, signed by just enough offices, the last among
+/// them, and no other notarised block.
+#[test]
+fn votes_of_many_offices() {
+    let log = &row("votes, 32 offices").log;
+    let register = register_after(log).expect("a log that reads");
+    assert_eq!(register.trusted_offices().count(), 32);
+    assert_eq!((register.last_block(), register.sent()), (Block(255), 1024));
+    let steps = read_log(log).expect("a log that reads").steps;
+    let last_votes = steps.iter().rev().take(21).map(|step| match *step {
+        Step::Vote { office, .. } => office,
+        _ => panic!("{step:?}"),
+    });
+    let voters: BTreeSet<Office> = last_votes.collect();
+    assert_eq!(voters.len(), 21);
+    for office in voters {
+        let tips = notarised_tips(&register, office);
+        assert_eq!(tips, [Block(12)]);
+        assert_eq!(register.chain_length(Block(12)), 12);
+        let view = register.view(office);
+        for block in (1..=12).map(Block) {
+            assert_eq!(view.signers(block), u32::MAX << 10);
         }
     }
 }
