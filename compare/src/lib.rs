@@ -17,7 +17,8 @@
 //! proved`, and `SKOVARNEK_LIB_DIR` set to the folder of `libskovarnek.a`, it
 //! compares both checkers too. `SKOVARNEK_LOGS` sets how many generated logs the
 //! tests take and `SKOVARNEK_FIRST_SEED` where their seeds start. `cargo run
-//! --release --features proved --bin bench` measures both on long logs.
+//! --release --features proved --bin bench` measures both on long logs. `--bin
+//! reports` writes the proved checker's reports, to compare two builds of it.
 
 pub mod generate;
 pub mod packed;

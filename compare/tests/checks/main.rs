@@ -16,6 +16,8 @@ mod program;
 #[cfg(feature = "proved")]
 mod proved;
 mod registers;
+#[cfg(feature = "proved")]
+mod reports;
 mod signers;
 mod text;
 
