@@ -3,6 +3,7 @@
 mod full;
 mod packing;
 mod readings;
+mod signers;
 mod steps;
 mod whole;
 
@@ -23,6 +24,7 @@ pub fn all() -> Vec<Case> {
         whole::cases(),
         steps::cases(),
         readings::cases(),
+        signers::cases(),
         full::cases(),
         packing::cases(),
     ];
@@ -132,6 +134,11 @@ fn every_refusal_of_every_step() {
 #[test]
 fn readings() {
     assert_cases(readings::cases());
+}
+
+#[test]
+fn each_of_32_signers_decides() {
+    assert_cases(signers::cases());
 }
 
 #[test]
