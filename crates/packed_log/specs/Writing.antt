@@ -6,7 +6,7 @@ use lib.Dec.{eqb, ltb, leb}
 use lib.ListN.{length, getD, replicate}
 use Rattle.quorum.specs.Opening.{openingTests}
 use Rattle.words.specs.Tests.{choose, either}
-use Rattle.words.specs.Digits.{digit}
+use Rattle.words.specs.Digits.{inSet}
 use Rattle.words.specs.Refusals.{_⇒_, first}
 use Rattle.register.specs.declared.step.Step.{Step}
 use Rattle.packed_log.specs.declared.row.Row.{Row}
@@ -18,7 +18,7 @@ use Rattle.packed_log.specs.Widths.{width}
 -- the trust bits of n offices, office 0 first
 unfoldable pub trustBits : (n trust : ℕ) → List Bool
 trustBits zero trust = []
-trustBits (suc n) trust = trustBits n trust ++ (eqb (digit 2 trust n) 1 ∷ [])
+trustBits (suc n) trust = trustBits n trust ++ (inSet trust n ∷ [])
 
 -- the leaders of a schedule
 unfoldable pub leaderBits : (schedule : List ℕ) → List Bool

@@ -2,16 +2,16 @@
 use Prim.Native.Nat.{ℕ, _*_}
 use mathlib.Core.Bool.{Bool, not}
 use mathlib.Core.List.{List, [], _∷_}
-use lib.Dec.{eqb, leb}
+use lib.Dec.{leb}
 use lib.ListN.{length, getD}
 use Rattle.words.specs.Tests.{any, between}
 use Rattle.words.specs.Sums.{tally}
-use Rattle.words.specs.Digits.{digit}
+use Rattle.words.specs.Digits.{inSet}
 use Rattle.words.specs.Refusals.{Refusal, _⇒_, first}
 
 -- how many of the n offices have the trust bit 0
 unfoldable pub untrusted : (n : ℕ) → (trust : ℕ) → ℕ
-untrusted n trust = tally n (λ q. not (eqb (digit 2 trust q) 1))
+untrusted n trust = tally n (λ q. not (inSet trust q))
 
 -- so many untrusted of n offices are too many: 3 × untrusted ≥ n
 unfoldable pub tooMany : (untrusted : ℕ) → (n : ℕ) → Bool

@@ -1,8 +1,7 @@
 // Which numbers of offices will do: signers that are enough, and openings that are not refused.
 ghost use mathlib.Core.Path.{_≡_};
-ghost use lib.Dec.{eqb};
 ghost use Rattle.words.specs.Sums.{tally};
-ghost use Rattle.words.specs.Digits.{digit};
+ghost use Rattle.words.specs.Digits.{inSet};
 ghost use Rattle.quorum.specs.Enough.{enough};
 ghost use Rattle.quorum.specs.Opening.{untrusted, stray, openingRefusal};
 
@@ -17,7 +16,7 @@ pub const THIRD: u8 = 4;
 
 // The members of a set are enough signers of n offices: three times their number is at least twice n.
 pub fn is_enough(set: u32, n: u8) -> bool
-    ensures { λ r. ⌜ r ≡ enough (tally n (λ s. eqb (digit 2 set s) 1)) n ⌝ }
+    ensures { λ r. ⌜ r ≡ enough (tally n (inSet set)) n ⌝ }
 {
     2 * (n as u32) <= 3 * words::members(set, n)
 }

@@ -17,6 +17,7 @@ pub mod Growth
 pub mod Growing
 pub mod Settling
 pub mod Searching
+pub mod Signing
 pub mod Answering
 pub mod Writing
 pub mod Carrying

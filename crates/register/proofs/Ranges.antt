@@ -19,13 +19,17 @@ use Rattle.register.specs.Lent.{Counted}
 abbrev Fixed : Book → Type 0
 Fixed r = (i : ℕ) → i < r .scheduled → getD (r .leaders) i 0 < r .n
 
+-- of a message: its signer is an office, and its block one from 1 up to the last
+abbrev pub MessageRange : Book → (m : ℕ) → Type 0
+MessageRange r m =
+    (getD (r .signers) m 0 < r .n) × ((1 ≤ getD (r .about) m 0) × (getD (r .about) m 0 ≤ r .last .0))
+
 -- every number of the book is in its range, and the tables have their sizes
 pub record Ranges (r : Book) : Type 0 where
   pub counts : Counted (scalarsOf r)
   pub fixed : Fixed r
   pub blocks : (k : ℕ) → k < r .last .0 → (getD (r .parents) (k + 1) 0 < k + 1) × (getD (r .epochs) (k + 1) 0 ≤ 511)
-  pub messages : (m : ℕ) → m < r .count
-      → (getD (r .signers) m 0 < r .n) × ((1 ≤ getD (r .about) m 0) × (getD (r .about) m 0 ≤ r .last .0))
+  pub messages : (m : ℕ) → m < r .count → MessageRange r m
   pub finals : (q : ℕ) → q < r .n → trusted r q ≡ true → finalOf r q ≤ r .last .0
   pub sizes : Sizes r
 
@@ -58,7 +62,19 @@ counted s h =
       messages = leb-true _ 1024 (all .1 .1 .1 .1 .0);
     }
 
--- they stay so with another epoch and other counts in their ranges
+-- so they are in a fit book
+pub fit-counts : (r : Book) → fit r ≡ true → Counted (scalarsOf r)
+unfolding fit
+fit-counts r h = counted _ (holds _ h .0)
+
+-- and so are those of every message sent
+pub fit-messages : (r : Book) → fit r ≡ true → (m : ℕ) → m < r .count → MessageRange r m
+unfolding fit messageFits
+fit-messages r h m l =
+    let fits = all-at _ _ m (holds _ h .1 .1 .1 .0) l in
+    (ltb-true _ _ (both-left _ _ fits), between-true _ _ _ (both-right _ _ fits))
+
+-- single numbers stay in their ranges with another epoch and other counts that are
 pub recounted : {s t : Scalars} → Counted s → t .n ≡ s .n → t .scheduled ≡ s .scheduled → 1 ≤ t .epoch .0 → t .epoch .0 ≤ s .scheduled
     → t .last .0 ≤ 255 → t .count ≤ 1024 → Counted t
 recounted c n scheduled first current blocks messages =
@@ -75,18 +91,16 @@ recounted c n scheduled first current blocks messages =
 module _ {r : Book} where
   -- the numbers of a fit book are in their ranges
   pub ranges : Sizes r → fit r ≡ true → Ranges r
-  unfolding fit blockFits messageFits stateFits
+  unfolding fit blockFits stateFits
   ranges sizes h =
       let all = holds _ h in
       record {
-        counts = counted _ (all .0);
+        counts = fit-counts r h;
         fixed = λ i l. ltb-true _ _ (all-at _ _ i (all .1 .0) l);
         blocks = λ k l.
             let fits = all-at _ _ k (all .1 .1 .0) l in
             (ltb-true _ _ (both-left _ _ fits), leb-true _ _ (both-right _ _ fits));
-        messages = λ m l.
-            let fits = all-at _ _ m (all .1 .1 .1 .0) l in
-            (ltb-true _ _ (both-left _ _ fits), between-true _ _ _ (both-right _ _ fits));
+        messages = fit-messages r h;
         finals = λ q l t. leb-true _ _ (implied _ _ (all-at _ _ q (all .1 .1 .1 .1 .0) l) t);
         sizes = sizes;
       }

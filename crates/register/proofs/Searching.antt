@@ -32,19 +32,23 @@ viewOf r q = viewIn (r .places) (r .signers) (r .about) (min (r .count) 1024) q
 abbrev pub certifiedOf : Book → (q : ℕ) → ℕ → Bool
 certifiedOf r q = certifiedIn (viewOf r q) (r .parents) (r .epochs) (r .last .0) (min (r .n) 32)
 
+-- the signatures in a trusted office's view are what the columns show
+pub signed-columns : (r : Book) (q signer b : ℕ) → trusted r q ≡ true
+    → signed r q signer b ≡ signedIn (r .places) (r .signers) (r .about) (r .count) q signer b
+unfolding signed signedIn stage choose both
+signed-columns r q signer b h =
+    any-same (λ m. both (inView r q m) (says r signer b m)) (signs (r .places) (r .signers) (r .about) q signer b) (r .count)
+    (λ m l. rw (h, lt-ltb m (r .count) l))
+
 module _ (r : Book) (few : r .count ≤ 1024) where
   -- all its messages are read
   all-messages : min (r .count) 1024 ≡ r .count
   all-messages = omega arith
 
-  -- the signatures in a trusted office's view are what the columns show
+  -- the signatures are what the columns show by the messages that are read
   pub signed-in : (q signer b : ℕ) → trusted r q ≡ true
       → signed r q signer b ≡ signedIn (r .places) (r .signers) (r .about) (min (r .count) 1024) q signer b
-  unfolding signed signedIn stage choose both
-  signed-in q signer b h =
-      rw all-messages
-      (any-same (λ m. both (inView r q m) (says r signer b m)) (signs (r .places) (r .signers) (r .about) q signer b) (r .count)
-      (λ m l. rw (h, lt-ltb m (r .count) l)))
+  signed-in q signer b h = rw all-messages (signed-columns r q signer b h)
 
 module _ (r : Book) (few : r .count ≤ 1024) (offices : r .n ≤ 32) (q : ℕ) (h : trusted r q ≡ true) where
   -- all its offices are read

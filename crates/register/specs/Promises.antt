@@ -4,9 +4,11 @@ use mathlib.Core.Path.{_≡_}
 use mathlib.Core.Bool.{true}
 use mathlib.Core.List.{List}
 use lib.ListN.{length}
+use Rattle.words.specs.Digits.{inSet, setBits}
 use Rattle.register.specs.Types.{Step, Register, Book}
 use Rattle.register.specs.Limits.{blockEntries, mostMessages}
 use Rattle.register.specs.Books.{bookOf}
+use Rattle.register.specs.Views.{signed, signers, signerSet, notarised}
 use Rattle.register.specs.Fitness.{fit}
 use Rattle.register.specs.Opening.{closed, opening}
 use Rattle.register.specs.Steps.{stepRule}
@@ -47,6 +49,21 @@ unfoldable pub RefusedStepStays : Type 0
 RefusedStepStays =
     (r : Register) (step : Step) → (stepRule r step .refusal ≡ 0 → ⊥)
     → (stepRule r step .register ≡ r) × (stepRule r step .value ≡ 0)
+
+-- what the word of a block's signers in office q's view tells: bit s is set exactly when office s's signature on the block is in the view, and
+-- as many bits are set as there are different signers
+pub record SignerBits (r : Book) (q b : ℕ) : Type 0 where
+  pub bits : (s : ℕ) → inSet (signerSet r q b) s ≡ signed r q s b
+  pub count : setBits (signerSet r q b) ≡ signers r q b
+
+-- In a fit register the word of every block, in every office's view, tells that.
+unfoldable pub SignersAreBits : Type 0
+SignersAreBits = (r : Register) → fit (bookOf r) ≡ true → (q b : ℕ) → SignerBits (bookOf r) q b
+
+-- There genesis has no signers; it is notarised all the same.
+unfoldable pub GenesisUnsigned : Type 0
+GenesisUnsigned =
+    (r : Register) → fit (bookOf r) ≡ true → (q : ℕ) → (signerSet (bookOf r) q 0 ≡ 0) × (notarised (bookOf r) q 0 ≡ true)
 
 -- what an opening fixes: the number of offices, the trusted ones, and the schedule
 pub record Council : Type 0 where

@@ -3,9 +3,8 @@
 use Prim.Native.Nat.{ℕ, _<_, _≤_}
 use mathlib.Core.Bool.{true}
 use mathlib.Core.Path.{_≡_}
-use lib.Dec.{eqb}
 use Rattle.words.specs.Tests.{choose}
-use Rattle.words.specs.Digits.{digit}
+use Rattle.words.specs.Digits.{inSet}
 use Rattle.register.specs.Types.{Office, Block, Step, OfficeState, Book, Actor}
 use Rattle.register.specs.Limits.{mostOffices}
 use Rattle.register.specs.Books.{block}
@@ -19,7 +18,7 @@ pub record Settled (r : Book) (q : ℕ) : Type 0 where
 
 -- the same of each office of a set
 abbrev pub AllSettled : Book → (set : ℕ) → Type 0
-AllSettled r set = (q : ℕ) → q < mostOffices → eqb (digit 2 set q) 1 ≡ true → Settled r q
+AllSettled r set = (q : ℕ) → q < mostOffices → inSet set q ≡ true → Settled r q
 
 -- block b's chain is notarised in office q's view
 abbrev pub Base : Book → (q b : ℕ) → Type 0
@@ -27,7 +26,7 @@ Base r q b = chainNotarised r q b ≡ true
 
 -- such a block for the acting office: its final block where the office is in the set, else genesis
 abbrev pub settledBase : OfficeState → (set q : ℕ) → Block
-settledBase state set q = choose (eqb (digit 2 set q) 1) (state .finalised) (block 0)
+settledBase state set q = choose (inSet set q) (state .finalised) (block 0)
 
 -- an office that is not there
 abbrev pub nobody : Office

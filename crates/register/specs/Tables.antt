@@ -3,10 +3,9 @@
 use Prim.Native.Nat.{ℕ, _-_}
 use mathlib.Core.Bool.{Bool, true, false}
 use mathlib.Core.List.{List}
-use lib.Dec.{eqb}
 use lib.ListN.{getD}
 use Rattle.words.specs.Tests.{choose}
-use Rattle.words.specs.Digits.{digit}
+use Rattle.words.specs.Digits.{inSet}
 use Rattle.tables.specs.Blocks.{trustedIn, madeIn, parentIn, epochIn, namedIn}
 use Rattle.register.specs.Types.{Office, Block, Kind, Header, OfficeState, Book}
 use Rattle.register.specs.Books.{office, epoch, block}
@@ -17,7 +16,7 @@ trusted r q = trustedIn (r .n) (r .trust) q
 
 -- the office's bit in the word of those that have acted is 1
 abbrev pub acted : Book → ℕ → Bool
-acted r q = eqb (digit 2 (r .acted) q) 1
+acted r q = inSet (r .acted) q
 
 -- the leader of an epoch
 abbrev pub leaderOf : Book → ℕ → ℕ

@@ -1,11 +1,11 @@
--- Where a message is for an office, what stands in an office's view, and when a block is notarised there.
+-- Where a message is for an office, what stands in an office's view, who signed a block there, and when it is notarised.
 use Prim.Native.Nat.{ℕ}
 use mathlib.Core.Bool.{Bool}
 use lib.Dec.{eqb, ltb}
 use lib.ListN.{getD}
 use Rattle.words.specs.Tests.{choose, both, either, any}
 use Rattle.words.specs.Sums.{tally}
-use Rattle.words.specs.Digits.{digit}
+use Rattle.words.specs.Digits.{digit, setOf}
 use Rattle.quorum.specs.Enough.{enough}
 use Rattle.tables.specs.Messages.{absent, transit, inbox, view, saysIn}
 use Rattle.register.specs.Types.{Book}
@@ -35,6 +35,10 @@ signed r q signer b = any (r .count) (λ m. both (inView r q m) (says r signer b
 -- how many different offices' signatures on block b are in office q's view
 abbrev pub signers : Book → ℕ → ℕ → ℕ
 signers r q b = tally (r .n) (λ signer. signed r q signer b)
+
+-- these offices as a word of 32 bits: bit s is that of office s, and from n up no bit is set
+unfoldable pub signerSet : Book → ℕ → ℕ → ℕ
+signerSet r q b = setOf (λ signer. both (ltb signer (r .n)) (signed r q signer b))
 
 -- block b is notarised in office q's view; genesis always is
 unfoldable pub notarised : Book → ℕ → ℕ → Bool

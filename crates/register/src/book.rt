@@ -108,7 +108,7 @@ fn epoch_numbers(typed: [Epoch; BLOCKS]) -> Epochs
 }
 
 // The numbers of the messages' signers.
-fn signer_numbers(typed: [Office; MESSAGES]) -> Signers
+pub(crate) fn signer_numbers(typed: [Office; MESSAGES]) -> Signers
     ensures { λ r. ⌜ (r ≡ map officeNumber typed) × (length r ≡ mostMessages) ⌝ }
 {
     let mut numbers = [0u8; MESSAGES];
@@ -122,7 +122,7 @@ fn signer_numbers(typed: [Office; MESSAGES]) -> Signers
 }
 
 // The numbers of the blocks that the messages are about.
-fn about_numbers(typed: [Block; MESSAGES]) -> About
+pub(crate) fn about_numbers(typed: [Block; MESSAGES]) -> About
     ensures { λ r. ⌜ (r ≡ map blockNumber typed) × (length r ≡ mostMessages) ⌝ }
 {
     let mut numbers = [0u8; MESSAGES];

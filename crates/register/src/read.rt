@@ -1,13 +1,43 @@
 // What a register holds, for whoever reads it.
 ghost use mathlib.Core.Path.{_≡_};
-ghost use Rattle.register.specs.Books.{block, bookOf};
+ghost use mathlib.Core.List.{map};
+ghost use Rattle.tables.specs.Searches.{viewIn};
+ghost use Rattle.register.specs.Books.{block, officeNumber, blockNumber, bookOf};
 ghost use Rattle.register.specs.Tables.{trusted, finalFor};
+ghost use Rattle.register.specs.Views.{signerSet};
 ghost use Rattle.register.specs.Chains.{lengthOf};
+use crate::book::about_numbers;
 use crate::book::parent_numbers;
+use crate::book::signer_numbers;
+use crate::columns::Places;
+use crate::limits::MESSAGES;
 use crate::limits::OFFICES;
 use crate::sorts::Block;
 use crate::sorts::Office;
 use crate::table::Register;
+use tables::View;
+
+// An office's view by the columns of a register: the signers of each block, gathered in one pass over the messages. Of a count above the last
+// entry of the columns those with an entry are all that can be in a view.
+fn view_in(
+    places: Places,
+    signers: [Office; MESSAGES],
+    about: [Block; MESSAGES],
+    count: u16,
+    office: Office,
+) -> View
+    ensures { λ r. ⌜ r ≡ viewIn places (map officeNumber signers) (map blockNumber about) count (office .0) ⌝ }
+{
+    let signer_column = signer_numbers(signers);
+    let about_column = about_numbers(about);
+    tables::view_of(
+        &places,
+        &signer_column,
+        &about_column,
+        count as usize,
+        office.0,
+    )
+}
 
 impl Register {
     // The office is there and trusted.
@@ -42,5 +72,20 @@ impl Register {
         let typed = self.parents;
         let parents = parent_numbers(typed);
         tables::length_of(&parents, self.last.0, b.0)
+    }
+
+    // The signers of a block in an office's view: bit s is that of office s, and from n up no bit is set. The view of an office that is not
+    // trusted is empty.
+    pub fn signer_set(self, office: Office, b: Block) -> u32
+        ensures { λ r. ⌜ r ≡ signerSet (bookOf self) (office .0) (b .0) ⌝ }
+    {
+        if !tables::trusted_at(self.n, self.trust, office.0) {
+            return 0;
+        }
+        let places = self.places;
+        let signers = self.signers;
+        let about = self.about;
+        let view = view_in(places, signers, about, self.count, office);
+        words::below(view[b.0 as usize], self.n)
     }
 }

@@ -9,13 +9,14 @@ use native.Mathlib.Nat.{add-zero, add-suc}
 use native.Mathlib.Decide.{decLt}
 use borrow.Author.Tests.{le-leb, lt-ltb, ltb-true}
 use lib.Dec.{eqb, ltb}
-use lib.ListN.{getD}
+use lib.ListN.{length, getD, List·getD-eq-default}
 use Rattle.words.specs.Tests.{choose, both, any}
 use Rattle.words.specs.Digits.{digit}
+use Rattle.words.proofs.Digits.{digit-zero}
 use Rattle.words.proofs.Tests.{and-agree, and-both, any-make, any-next, any-none, both-left, both-right, both-none, either-none, lowest-is, lowest-only}
 use Rattle.tables.specs.Blocks.{madeIn, epochIn, matchesIn, namedIn}
 use Rattle.tables.specs.Messages.{view, saysIn, historyIn}
-use Rattle.tables.specs.Searches.{signedIn}
+use Rattle.tables.specs.Searches.{messages, signedIn}
 
 -- a walk by chunks of 64 has come to `from`: a chunk starts there, or all messages that were sent are behind it
 abbrev pub AtChunk : (from sent : ℕ) → Type 0
@@ -77,6 +78,23 @@ module _ (places signers about : List ℕ) (q s b from : ℕ) where
               sym (rw here at e) ∙ miss
           | no over ↦ none i (omega arith) l
         ]
+
+-- a column of places has no entry past its end, so that of all messages those with an entry tell
+pub signed-most : (places signers about : List ℕ) (q s b count : ℕ) → length places ≡ messages
+    → signedIn places signers about (min count messages) q s b ≡ signedIn places signers about count q s b
+unfolding both
+signed-most places signers about q s b count whole =
+    elim (decLt count messages) as (λ _. signedIn places signers about (min count messages) q s b ≡ signedIn places signers about count q s b) [
+      | yes few ↦
+          let all : min count messages ≡ count = omega arith in
+          rw all
+      | no more ↦
+          let most : min count messages ≡ messages = omega arith in
+          let rest : count ≡ messages + (count - messages) = omega arith in
+          rw (most, rest)
+          (unsigned-past places signers about q s b messages (count - messages)
+          (λ i low l. rw (List·getD-eq-default places 0 {n = messages + i} (omega arith), digit-zero 4 q)))
+    ]
 
 -- one message more of the history
 pub history-next : (votes : List Bool) (signers about : List ℕ) (vote : Bool) (s b m : ℕ) (found mine : Bool)

@@ -11,11 +11,11 @@ use borrow.Author.Tests.{eq-eqb, ne-eqb, eqb-true, eqb-false, lt-ltb, le-ltb}
 use lib.Dec.{eqb, ltb}
 use lib.ListN.{length}
 use Rattle.quorum.proofs.Enough.{enough-make}
-use Rattle.words.specs.Digits.{digit, fill}
+use Rattle.words.specs.Digits.{fill, inSet, setOf}
 use Rattle.words.specs.Tests.{choose, both, either, every}
 use Rattle.words.proofs.Tests.{any-fails, any-same, both-right, decided, either-cases, either-left, either-false-left, either-false-right}
 use Rattle.words.proofs.Sums.{always, tally-always, tally-ext}
-use Rattle.words.proofs.Digits.{bit-set}
+use Rattle.words.proofs.Digits.{in-set}
 use Rattle.tables.specs.Blocks.{parentIn}
 use Rattle.tables.specs.Chains.{chainBy}
 use Rattle.tables.specs.Searches.{blocks, offices, enoughIn, certifiedBy, certifiedIn, above, certifiedAbove, rank, rankAbove, raised, outranked, longerBy, longestBy, longestIn}
@@ -27,15 +27,15 @@ unfolding every
 certified-genesis parent certified = rw (chain-by-genesis parent)
 
 -- the word of 32 ones is the set of all 32 offices
-everyone-all : 4294967295 ≡ fill 2 offices (λ s. choose (always s) 1 0)
-unfolding fill choose
+everyone-all : 4294967295 ≡ setOf always
+unfolding setOf fill choose
 everyone-all = refl
 
 -- everyone is enough, however many offices there are
 pub everyone-enough : (n : ℕ) → n ≤ offices → enoughIn 4294967295 n ≡ true
 everyone-enough n few =
-    let in-it : (s : ℕ) → s < n → eqb (digit 2 4294967295 s) 1 ≡ true = λ s h. rw everyone-all (bit-set offices always s (omega arith)) in
-    enough-make _ n (omega (arith, tally-ext n (λ s. eqb (digit 2 4294967295 s) 1) always in-it, tally-always n))
+    let in-it : (s : ℕ) → s < n → inSet 4294967295 s ≡ true = λ s h. rw everyone-all (in-set always s (omega arith)) in
+    enough-make _ n (omega (arith, tally-ext n (inSet 4294967295) always in-it, tally-always n))
 
 -- a certified block has enough signers
 pub certified-enough : (parent epoch : ℕ → ℕ) (n b set : ℕ) (t : Bool) → t ≡ certifiedBy parent epoch (λ _. enoughIn set n) b → t ≡ true → enoughIn set n ≡ true

@@ -1,6 +1,6 @@
 -- Gathering signers, of all blocks or of one: by which messages the sets hold signers at each turn of the loop, and that the sets by all messages
 -- say what the columns do.
-use Prim.Native.Nat.{ℕ, zero, suc, _+_, _-_, _<_, _≤_}
+use Prim.Native.Nat.{ℕ, zero, suc, _+_, _-_, _<_, _≤_, min}
 use mathlib.Core.Path.{_≡_, refl, sym, ap, _∙_}
 use mathlib.Core.Bool.{Bool, true, false}
 use mathlib.Core.Logic.{⊎-elim}
@@ -14,31 +14,15 @@ use lib.Dec.{eqb, ltb, leb}
 use lib.ListN.{length, length-set, getD, set, replicate, getD-replicate}
 use lib.Seq.{getD-set-same, getD-set-other, ext-getD}
 use Rattle.quorum.specs.Enough.{enough}
-use Rattle.words.specs.Digits.{digit, fill, withMember}
+use Rattle.words.specs.Digits.{digit, fill, setOf, withMember}
 use Rattle.words.specs.Sums.{tally}
 use Rattle.words.specs.Tests.{choose, both, either, any}
 use Rattle.words.proofs.Tests.{any-fails, any-same, any-with, both-all, both-none, decided, either-left, either-none, either-right}
 use Rattle.words.proofs.Sums.{tally-ext}
-use Rattle.words.proofs.Digits.{bit-set, fill-ext}
+use Rattle.words.proofs.Digits.{in-set, set-ext, set-none}
 use Rattle.tables.specs.Messages.{view, saysIn}
-use Rattle.tables.specs.Searches.{blocks, offices, signedIn, setOf, signersIn, tabulate, viewIn, enoughIn}
-use Rattle.tables.proofs.Scans.{signs, untold-past}
-
--- two tests that agree on the 32 offices make the same set
-set-ext : (p q : ℕ → Bool) → ((s : ℕ) → s < 32 → p s ≡ q s) → setOf p ≡ setOf q
-unfolding setOf
-set-ext p q same =
-    fill-ext 2 32 (λ s. choose (p s) 1 0) (λ s. choose (q s) 1 0) (λ s h. ap (λ (t : Bool). choose t 1 0) (same s h))
-
--- an office is in the set of a test where the test holds of it
-in-set : (p : ℕ → Bool) (s : ℕ) → s < 32 → eqb (digit 2 (setOf p) s) 1 ≡ p s
-unfolding setOf
-in-set p s h = bit-set 32 p s h
-
--- the set with one office more is that of those in it and of that one
-member-set : (w q : ℕ) → withMember w q ≡ setOf (λ s. either (eqb (digit 2 w s) 1) (eqb q s))
-unfolding withMember setOf
-member-set w q = refl
+use Rattle.tables.specs.Searches.{messages, blocks, offices, signedIn, signersIn, tabulate, viewIn, enoughIn}
+use Rattle.tables.proofs.Scans.{signs, signed-most, untold-past}
 
 -- the values of a function are as many as were asked for, and each is at its place
 length-tabulate : (n : ℕ) (f : ℕ → ℕ) → length (tabulate n f) ≡ n
@@ -58,14 +42,27 @@ module _ (places signers about : List ℕ) (count q : ℕ) where
   unfolding viewIn
   view-entry b h = getD-tabulate blocks (signersIn places signers about count q) b h
 
+  -- it has a set for each block
+  length-view : length (viewIn places signers about count q) ≡ blocks
+  unfolding viewIn
+  length-view = length-tabulate blocks (signersIn places signers about count q)
+
   -- sets that hold each block's signers are the view
   view-ext : (sets : List ℕ) → length sets ≡ blocks
       → ((b : ℕ) → b < blocks → getD sets b 0 ≡ setOf (λ s. signedIn places signers about count q s b))
       → sets ≡ viewIn places signers about count q
   unfolding viewIn signersIn
   view-ext sets whole h =
-      ext-getD 0 sets (viewIn places signers about count q) (whole ∙ sym (length-tabulate blocks (signersIn places signers about count q)))
+      ext-getD 0 sets (viewIn places signers about count q) (whole ∙ sym length-view)
       (λ b l. h b (omega arith) ∙ sym (view-entry b (omega arith)))
+
+-- a column of places has no entry past its end: by all messages the view is that by those with an entry
+pub view-most : (places signers about : List ℕ) (count q : ℕ) → length places ≡ messages
+    → viewIn places signers about (min count messages) q ≡ viewIn places signers about count q
+unfolding signersIn
+view-most places signers about count q whole =
+    view-ext places signers about count q _ (length-view places signers about (min count messages) q)
+    (λ b l. view-entry places signers about (min count messages) q b l ∙ set-ext _ _ (λ s h. signed-most places signers about q s b count whole))
 
 -- to choose between two sets is the set of the choice between their tests
 choose-set : (t : Bool) (p q : ℕ → Bool) → choose t (setOf p) (setOf q) ≡ setOf (λ s. choose t (p s) (q s))
@@ -85,8 +82,9 @@ joins false false mine old = rw either-none
 set-next : (f : ℕ → Bool) (w next place q signer about b : ℕ) → w ≡ setOf f
     → next ≡ choose (both (eqb about b) (eqb (digit 4 place q) view)) (withMember w signer) w
     → next ≡ setOf (λ s. either (f s) (both (eqb (digit 4 place q) view) (both (eqb signer s) (eqb about b))))
+unfolding withMember
 set-next f w next place q signer about b h e =
-    rw (e, member-set w signer, h, choose-set _ _ _) (set-ext _ _ (λ s l. rw (in-set f s l) (joins _ _ _ _)))
+    rw (e, h, choose-set _ _ _) (set-ext _ _ (λ s l. rw (in-set f s l) (joins _ _ _ _)))
 
 -- what a message that was noted, in the view or not, does to the set of each block
 noted-entry : (sets : List ℕ) (inside : Bool) (about signer b : ℕ) → length sets ≡ blocks → about < blocks
@@ -157,11 +155,10 @@ module _ (places signers about : List ℕ) (count q : ℕ) where
 
   -- at first they hold nobody
   pub gather-none : Gathered (outside 0 count) (replicate blocks 0)
-  unfolding outside either both setOf fill choose
+  unfolding outside either both
   gather-none b h =
       getD-replicate blocks b 0 0 h
-      ∙ set-ext (λ s. false) (signed-by (outside 0 count) b)
-      (λ s l. sym (any-fails _ count (λ m below. rw (le-ltb m 0 (omega arith), lt-leb count m below))))
+      ∙ sym (set-none (signed-by (outside 0 count) b) (λ s. any-fails _ count (λ m below. rw (le-ltb m 0 (omega arith), lt-leb count m below))))
 
   -- what noting message m makes of the sets
   abbrev pub Noted : (m : ℕ) → (sets noted : List ℕ) → Type 0
@@ -210,8 +207,8 @@ module _ (places signers about : List ℕ) (count q : ℕ) where
 module _ (places signers about : List ℕ) (q b : ℕ) where
   -- no messages, no signers
   pub signers-none : 0 ≡ signersIn places signers about 0 q b
-  unfolding signersIn signedIn any setOf fill choose
-  signers-none = refl
+  unfolding signersIn signedIn any
+  signers-none = sym (set-none (λ s. signedIn places signers about 0 q s b) (λ s. refl))
 
   -- one message more: the signers by the messages before a chunk and its first i + 1
   pub signers-next : (from i w next : ℕ) → w ≡ signersIn places signers about (from + i) q b

@@ -6,11 +6,11 @@ use mathlib.Core.List.{List}
 use lib.Dec.{eqb, ltb, leb}
 use lib.ListN.{getD}
 use Rattle.words.specs.Tests.{choose, both, lowest}
-use Rattle.words.specs.Digits.{digit}
+use Rattle.words.specs.Digits.{inSet}
 
 -- the office is there, and its bit in the trust word is 1
 unfoldable pub trustedIn : (n trust : ℕ) → (q : ℕ) → Bool
-trustedIn n trust q = both (ltb q n) (eqb (digit 2 trust q) 1)
+trustedIn n trust q = both (ltb q n) (inSet trust q)
 
 -- a block from 1 up to the last
 unfoldable pub madeIn : (last : ℕ) → ℕ → Bool

@@ -9,7 +9,7 @@ use lib.ListN.{length, getD}
 use Rattle.quorum.specs.Enough.{enough}
 use Rattle.words.specs.Tests.{choose, both, any, every}
 use Rattle.words.specs.Sums.{tally}
-use Rattle.words.specs.Digits.{digit, fill}
+use Rattle.words.specs.Digits.{digit, inSet, setOf}
 use Rattle.tables.specs.Blocks.{parentIn, epochIn}
 use Rattle.tables.specs.Messages.{view, saysIn}
 use Rattle.tables.specs.Chains.{chainBy}
@@ -29,10 +29,6 @@ unfoldable pub signedIn : (places signers about : List ℕ) → (count : ℕ) �
 signedIn places signers about count q signer b =
     any count (λ m. both (eqb (digit 4 (getD places m 0) q) view) (saysIn signers about signer b m))
 
--- the set of the offices of which a test holds, as a word
-unfoldable pub setOf : (ℕ → Bool) → ℕ
-setOf p = fill 2 offices (λ s. choose (p s) 1 0)
-
 -- the signers of block b in office q's view, as a set
 unfoldable pub signersIn : (places signers about : List ℕ) → (count : ℕ) → (q b : ℕ) → ℕ
 signersIn places signers about count q b = setOf (λ s. signedIn places signers about count q s b)
@@ -48,7 +44,7 @@ viewIn places signers about count q = tabulate blocks (signersIn places signers 
 
 -- the members of a set are enough signers of n offices
 abbrev pub enoughIn : (set n : ℕ) → Bool
-enoughIn set n = enough (tally n (λ s. eqb (digit 2 set s) 1)) n
+enoughIn set n = enough (tally n (inSet set)) n
 
 -- a block that can stand on a notarised chain: its epoch is greater than its parent's, and it is notarised
 unfoldable pub certifiedBy : (parent epoch : ℕ → ℕ) → (notarised : ℕ → Bool) → ℕ → Bool

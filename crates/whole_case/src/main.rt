@@ -1,5 +1,5 @@
-// Runs the worked case of the rules through the step methods and prints its report; then tries registers that are unfit in one way each, and an
-// opening with trust bits from n up.
+// Runs the worked case of the rules through the step methods and prints its report, and who signed its blocks in whose view; then tries registers
+// that are unfit in one way each, and an opening with trust bits from n up.
 use libc::STDOUT_FILENO;
 use register::Block;
 use register::Epoch;
@@ -66,6 +66,46 @@ fn third_epoch(register: Register) -> Register {
     let r = line(17, r.deliver(Message(4), Office(1)));
     let r = line(18, r.vote(Office(1), Message(4)));
     line(19, r.finalise(Office(1), Block(3)))
+}
+
+// Prints the word of the signers of a block in an office's view.
+fn signers_line(register: Register, q: u8, b: u8) {
+    print(b"signers ");
+    number(q as u64);
+    print(b" ");
+    number(b as u64);
+    print(b" ");
+    number(register.signer_set(Office(q), Block(b)) as u64);
+    print(b"\n");
+}
+
+// Whoever signed block 3, by the proposal of office 0 and the vote of office 1: office 0 has its own proposal, office 1 both. Of genesis, of a
+// block past the last, and in the view of an office that has nothing or is none, there is nobody.
+fn signers_of_the_case(register: Register) {
+    signers_line(register, 0, 3);
+    signers_line(register, 1, 3);
+    signers_line(register, 1, 0);
+    signers_line(register, 1, 4);
+    signers_line(register, 2, 3);
+    signers_line(register, 3, 3);
+}
+
+// A register that is not fit: message 0 is about block 1, in the view of office 0, and signed by an office past the last one; then of 32 offices
+// the last has signed, and the count says more messages than there are; then office 0 is no longer trusted.
+fn signers_by_hand(register: Register) {
+    let mut r = register;
+    let one = Block(1);
+    let last = Office(31);
+    r.count = 1;
+    r.about[0] = one;
+    r.signers[0] = last;
+    r.places[0] = 3;
+    signers_line(r, 0, 1);
+    r.n = 32;
+    r.count = 2000;
+    signers_line(r, 0, 1);
+    r.trust = 6;
+    signers_line(r, 0, 1);
 }
 
 // Prints what an advance of that register is refused with.
@@ -155,6 +195,8 @@ fn main() {
     office_line(r, 0);
     office_line(r, 1);
     office_line(r, 2);
+    signers_of_the_case(r);
+    signers_by_hand(fresh);
     unfit_counts(fresh);
     unfit_tables(fresh);
     unfit_messages(fresh);

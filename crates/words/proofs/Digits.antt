@@ -3,20 +3,20 @@ use Prim.Native.Nat.{ℕ, zero, suc, _+_, _-_, _*_, _/_, _%_, _^_, _≤_, _<_, m
 use mathlib.Core.Path.{_≡_, refl, sym, ap, _∙_}
 use mathlib.Core.Bool.{Bool, true, false}
 use mathlib.Core.Logic.{⊎-elim}
-use native.Mathlib.Nat.{add-comm, add-mul, add-zero, eq-of-mul-eq-mul-right, eq-or-lt-of-le, lt-of-lt-of-le, mul-assoc, mul-lt-mul-of-pos-left, mul-one, mul-zero, one-le-pow, one-mul, pow-le-pow-right, pow-suc, pow-succ', pow-zero, zero-add, zero-mul}
-use native.Mathlib.Nat.{add-mul-div-right, add-mul-mod-self-right, div-eq-of-lt, mod-eq-of-lt, mod-lt, mod-one, mul-mod-right, zero-div, zero-mod}
+use native.Mathlib.Nat.{add-comm, add-mul, add-zero, eq-of-mul-eq-mul-right, eq-or-lt-of-le, lt-of-le-of-lt, lt-of-lt-of-le, mul-assoc, mul-lt-mul-of-pos-left, mul-one, mul-zero, one-le-pow, one-mul, pow-le-pow-right, pow-suc, pow-succ', pow-zero, zero-add, zero-mul}
+use native.Mathlib.Nat.{add-mul-div-right, add-mul-mod-self-right, div-eq-of-lt, mod-eq-of-lt, mod-le, mod-lt, mod-one, mul-mod-right, zero-div, zero-mod}
 use native.Mathlib.Decide.{ℕ-discrete, decLt, decLe, le-ind}
 use native.Mathlib.Numerals.{add-one}
 use native.Mathlib.Omega.{arith}
-use borrow.Author.Tests.{eq-eqb, ne-eqb, eqb-true}
+use borrow.Author.Tests.{eq-eqb, ne-eqb, eqb-true, lt-ltb, le-ltb}
 use lib.Arith.{digits-lt, digits-div, mod-mul}
 use lib.Bits.{bitAnd, bitOr, and-high, or-lt, or-mod, or-shr, or-zero-l}
 use lib.Count.{ones, onesIn, ones-cat}
-use lib.Dec.{eqb}
+use lib.Dec.{eqb, ltb}
 use lib.Pow.{pow-add}
-use Rattle.words.specs.Digits.{digit, fill, withMember, withStage}
+use Rattle.words.specs.Digits.{digit, fill, inSet, setOf, withMember, withStage}
 use Rattle.words.specs.Sums.{tally, weigh, unit}
-use Rattle.words.specs.Tests.{choose, either}
+use Rattle.words.specs.Tests.{choose, both, either}
 use Rattle.words.proofs.Tests.{both-ways}
 
 -- a digit is below the base
@@ -238,13 +238,8 @@ chosen-bit (suc zero) h = refl
 chosen-bit (suc (suc d)) h = absurd (omega arith)
 
 -- the set of the numbers below n of which a test holds has just these
-pub bit-set : (n : ℕ) (p : ℕ → Bool) (q : ℕ) → q < n → eqb (digit 2 (fill 2 n (λ k. choose (p k) 1 0)) q) 1 ≡ p q
+bit-set : (n : ℕ) (p : ℕ → Bool) (q : ℕ) → q < n → eqb (digit 2 (fill 2 n (λ k. choose (p k) 1 0)) q) 1 ≡ p q
 bit-set n p q h = rw (digit-fill 2 n (λ k. choose (p k) 1 0) (λ k. choose-lt (p k) 1 0 2 (omega arith) (omega arith)) q h) (bit-chosen (p q))
-
--- who is in a set with one more member
-pub member-put : (w q k : ℕ) → k < 32 → eqb (digit 2 (withMember w q) k) 1 ≡ either (eqb (digit 2 w k) 1) (eqb q k)
-unfolding withMember
-member-put w q k h = bit-set 32 (λ x. either (eqb (digit 2 w x) 1) (eqb q x)) k h
 
 -- a word of n bits is the set of the numbers of which a test holds, where its bits say what the test says
 set-of-bits : (n w : ℕ) (p : ℕ → Bool) → w < 2 ^ n → ((q : ℕ) → q < n → eqb (digit 2 w q) 1 ≡ p q)
@@ -298,6 +293,49 @@ set-with n w q fit =
     set-of-bits n (bitOr w (2 ^ q % 2 ^ n)) (λ k. either (eqb (digit 2 w k) 1) (eqb q k))
     (or-lt n w (2 ^ q % 2 ^ n) fit (mod-lt (2 ^ q) (one-le-pow n 2 (omega arith))))
     (λ k l. rw (bit-or w (2 ^ q % 2 ^ n) k, bit-only n q k l))
+
+-- an office is in the set of a test where the test holds of it
+pub in-set : (p : ℕ → Bool) (s : ℕ) → s < 32 → inSet (setOf p) s ≡ p s
+unfolding setOf
+in-set p s h = bit-set 32 p s h
+
+-- who is in a set with one more member
+pub member-put : (w q k : ℕ) → k < 32 → inSet (withMember w q) k ≡ either (inSet w k) (eqb q k)
+unfolding withMember
+member-put w q k h = in-set (λ x. either (inSet w x) (eqb q x)) k h
+
+-- two tests that agree on the 32 offices make the same set
+pub set-ext : (p q : ℕ → Bool) → ((s : ℕ) → s < 32 → p s ≡ q s) → setOf p ≡ setOf q
+unfolding setOf
+set-ext p q same =
+    fill-ext 2 32 (λ s. choose (p s) 1 0) (λ s. choose (q s) 1 0) (λ s h. ap (λ (t : Bool). choose t 1 0) (same s h))
+
+-- the set of a test that holds of nobody is empty
+pub set-none : (p : ℕ → Bool) → ((s : ℕ) → p s ≡ false) → setOf p ≡ 0
+unfolding setOf choose
+set-none p none = set-ext p (λ s. false) (λ s h. none s) ∙ fill-none 2 32
+
+-- a set is a word of 32 bits
+set-lt : (p : ℕ → Bool) → setOf p < 2 ^ 32
+unfolding setOf
+set-lt p = fill-lt 2 32 _ (λ s. choose-lt (p s) 1 0 2 (omega arith) (omega arith))
+
+-- from 32 up there is nobody in the set of a test
+pub in-set-past : (p : ℕ → Bool) (s : ℕ) → 32 ≤ s → inSet (setOf p) s ≡ false
+in-set-past p s h = rw (digit-past 2 (setOf p) 32 s (set-lt p) h)
+
+-- the offices below n of the set of a test
+pub set-below : (n : ℕ) (p : ℕ → Bool) → fill 2 n (digit 2 (setOf p)) ≡ setOf (λ s. both (ltb s n) (p s))
+unfolding setOf both
+set-below n p =
+    let low : ℕ = fill 2 n (digit 2 (setOf p)) in
+    let bit : (q : ℕ) → digit 2 (setOf p) q < 2 = λ q. digit-lt 2 (setOf p) q (omega arith) in
+    set-of-bits 32 low (λ s. both (ltb s n) (p s)) (rw (fill-digit 2 n (setOf p) (omega arith)) (lt-of-le-of-lt (mod-le (setOf p) (2 ^ n)) (set-lt p)))
+    (λ s h.
+    elim (decLt s n) as (λ _. inSet low s ≡ both (ltb s n) (p s)) [
+      | yes l ↦ rw (digit-fill 2 n (digit 2 (setOf p)) bit s l, lt-ltb s n l) (in-set p s h)
+      | no past ↦ rw (digit-past 2 low n s (fill-lt 2 n (digit 2 (setOf p)) bit) (omega arith), le-ltb s n (omega arith))
+    ])
 
 -- the digit 3 of base 4 at a place within a word
 last-within : (q n : ℕ) → q < n → 3 * 2 ^ (2 * q) % 4 ^ n ≡ 3 * 4 ^ q

@@ -3,6 +3,7 @@ use Prim.Native.Nat.{ℕ, zero, suc, _+_, _<_, _≤_}
 use mathlib.Core.Path.{_≡_, refl, _∙_}
 use mathlib.Core.Bool.{Bool, true, false, not}
 use native.Mathlib.Omega.{arith}
+use native.Mathlib.Decide.{le-ind}
 use Rattle.words.specs.Tests.{choose}
 use Rattle.words.specs.Sums.{weigh, unit, tally}
 use Rattle.words.proofs.Tests.{clash}
@@ -59,3 +60,9 @@ weigh-ext w (suc n) p q same = rw (same n (omega arith), weigh-ext w n p q (λ k
 pub tally-ext : (n : ℕ) (p q : ℕ → Bool) → ((k : ℕ) → k < n → p k ≡ q k) → tally n p ≡ tally n q
 unfolding tally
 tally-ext n p q same = weigh-ext unit n p q same
+
+-- where no number from n up passes a test, those below n are all that do
+pub tally-past : (n m : ℕ) (p : ℕ → Bool) → n ≤ m → ((k : ℕ) → n ≤ k → p k ≡ false) → tally m p ≡ tally n p
+unfolding tally weigh choose
+tally-past n m p more none =
+    le-ind (λ (k : ℕ). weigh unit k p ≡ weigh unit n p) refl (λ k l e. rw (none k l) (omega arith)) m more

@@ -3,8 +3,8 @@
 ghost use mathlib.Core.Path.{_≡_};
 ghost use Prim.Native.Nat.{_%_, _^_, min};
 ghost use lib.Dec.{eqb};
-ghost use Rattle.words.specs.Tests.{choose, either, between};
-ghost use Rattle.words.specs.Digits.{digit, fill, withMember, withStage};
+ghost use Rattle.words.specs.Tests.{between};
+ghost use Rattle.words.specs.Digits.{digit, fill, inSet, withMember, withStage};
 ghost use Rattle.words.specs.Sums.{tally};
 
 // The digit of office q in a set: 1 where it is in, else 0.
@@ -19,7 +19,7 @@ pub fn bit(set: u32, q: u8) -> u32
 
 // Office q is in the set.
 pub fn has(set: u32, q: u8) -> bool
-    ensures { λ r. ⌜ r ≡ eqb (digit 2 set q) 1 ⌝ }
+    ensures { λ r. ⌜ r ≡ inSet set q ⌝ }
 {
     bit(set, q) == 1
 }
@@ -96,7 +96,7 @@ pub fn below(set: u32, n: u8) -> u32
 
 // How many offices of the set have a number below n.
 pub fn members(set: u32, n: u8) -> u32
-    ensures { λ r. ⌜ r ≡ tally n (λ q. eqb (digit 2 set q) 1) ⌝ }
+    ensures { λ r. ⌜ r ≡ tally n (inSet set) ⌝ }
 {
     u32::count_ones(below(set, n))
 }

@@ -4,12 +4,11 @@ use mathlib.Core.Path.{sym, _∙_}
 use borrow.Author.Tests.{eq-eqb, ne-eqb, not-true, not-false}
 use Rattle.words.specs.Tests.{choose, both}
 use Rattle.words.proofs.Tests.{both-none}
-use Rattle.tables.specs.Searches.{setOf}
 use Rattle.tables.proofs.view.with_signer.Statement.{statement}
 use Rattle.tables.proofs.view.with_signer.Tie as tie
 
 returns-3 : tie.Need-returns-3
-unfolding choose both setOf
+unfolding choose both
 returns-3 c =
     let at-if2 = c .before in
     let at-stage = at-if2 .before in
