@@ -1,21 +1,23 @@
 -- Climbing chains and searching for a longer one: what a turn of each loop adds, and what it tells of the chain.
-use Prim.Native.Nat.{ℕ, zero, suc, _+_, _<_, _≤_}
+use Prim.Native.Nat.{ℕ, zero, suc, _+_, _*_, _<_, _≤_}
 use mathlib.Core.Path.{_≡_, refl, sym, ap, _∙_}
-use mathlib.Core.Bool.{Bool, true, false, not}
+use mathlib.Core.Bool.{Bool, true, false, not, _&&_}
 use mathlib.Core.Logic.{_⊎_, inl, inr, ⊎-elim}
 use mathlib.Core.List.{List, [], _∷_}
 use native.Mathlib.Omega.{arith}
 use native.Mathlib.Numerals.{add-one}
 use native.Mathlib.Decide.{ℕ-discrete, decLt}
-use borrow.Author.Tests.{eq-eqb, ne-eqb, eqb-true, eqb-false, lt-ltb, le-ltb}
+use borrow.Author.Tests.{eq-eqb, ne-eqb, eqb-true, eqb-false, lt-ltb, le-ltb, ltb-true, lt-leb}
 use lib.Dec.{eqb, ltb}
 use lib.ListN.{length}
+use Rattle.quorum.specs.Enough.{enough}
 use Rattle.quorum.proofs.Enough.{enough-make}
 use Rattle.words.specs.Digits.{fill, inSet, setOf}
+use Rattle.words.specs.Sums.{tally}
 use Rattle.words.specs.Tests.{choose, both, either, every}
-use Rattle.words.proofs.Tests.{any-fails, any-same, both-right, decided, either-cases, either-left, either-false-left, either-false-right}
-use Rattle.words.proofs.Sums.{always, tally-always, tally-ext}
-use Rattle.words.proofs.Digits.{in-set}
+use Rattle.words.proofs.Tests.{and-both, any-fails, any-same, both-left, both-right, decided, either-cases, either-left, either-false-left, either-false-right}
+use Rattle.words.proofs.Sums.{always, tally-always, tally-ext, tally-none}
+use Rattle.words.proofs.Digits.{digit-zero, in-set}
 use Rattle.tables.specs.Blocks.{parentIn}
 use Rattle.tables.specs.Chains.{chainBy}
 use Rattle.tables.specs.Searches.{blocks, offices, enoughIn, certifiedBy, certifiedIn, above, certifiedAbove, rank, rankAbove, raised, outranked, longerBy, longestBy, longestIn}
@@ -36,6 +38,14 @@ pub everyone-enough : (n : ℕ) → n ≤ offices → enoughIn 4294967295 n ≡ 
 everyone-enough n few =
     let in-it : (s : ℕ) → s < n → inSet 4294967295 s ≡ true = λ s h. rw everyone-all (in-set always s (omega arith)) in
     enough-make _ n (omega (arith, tally-ext n (inSet 4294967295) always in-it, tally-always n))
+
+-- nobody is not enough, where there are offices
+pub nobody-enough : (set n : ℕ) → eqb set 0 && ltb 0 n ≡ true → enoughIn set n ≡ false
+unfolding enough
+nobody-enough set n e =
+    let nobody : both (eqb set 0) (ltb 0 n) ≡ true = sym (and-both _ _) ∙ e in
+    let none : tally n (inSet 0) ≡ 0 = tally-none n (inSet 0) (λ s. rw (digit-zero 2 s)) in
+    rw (eqb-true set 0 (both-left _ _ nobody), none) (lt-leb (2 * n) 0 (omega (arith, ltb-true 0 n (both-right _ _ nobody))))
 
 -- a certified block has enough signers
 pub certified-enough : (parent epoch : ℕ → ℕ) (n b set : ℕ) (t : Bool) → t ≡ certifiedBy parent epoch (λ _. enoughIn set n) b → t ≡ true → enoughIn set n ≡ true

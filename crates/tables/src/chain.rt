@@ -81,6 +81,26 @@ fn is_certified<'a>(
     quorum::is_enough(set, n)
 }
 
+// The same of a block that a search comes to off the chain that is to beat. On full tables most of these have no signer, and nobody is not enough
+// where there are offices.
+fn is_certified_aside<'a>(
+    parents: &'a [u8; 256],
+    epochs: &'a [u16; 256],
+    last: u8,
+    n: u8,
+    b: u8,
+    set: u32,
+    known: u32,
+) -> bool
+    requires { ⌜ enoughIn known n ≡ true ⌝ }
+    ensures { λ r. ⌜ r ≡ certifiedBy (parentIn (lent parents) last) (epochIn (lent epochs) last) (λ _. enoughIn set n) b ⌝ }
+{
+    if (set == 0) & (0 < n) {
+        return false;
+    }
+    is_certified(parents, epochs, last, n, b, set, known)
+}
+
 // A climb ends at genesis, or at the block that it is not to go below.
 fn is_foot(at: u8, base: u8) -> bool
     ensures { λ r. ⌜ r ≡ either (eqb at 0) (eqb at base) ⌝ }
@@ -212,7 +232,7 @@ fn is_outranked<'a>(
                 break 'climb;
             }
             let set = view[at as usize];
-            if !is_certified(parents, epochs, last, n, at, set, known) {
+            if !is_certified_aside(parents, epochs, last, n, at, set, known) {
                 ranks[x as usize] = 0;
                 break 'climb;
             }

@@ -66,3 +66,8 @@ pub tally-past : (n m : ℕ) (p : ℕ → Bool) → n ≤ m → ((k : ℕ) → n
 unfolding tally weigh choose
 tally-past n m p more none =
     le-ind (λ (k : ℕ). weigh unit k p ≡ weigh unit n p) refl (λ k l e. rw (none k l) (omega arith)) m more
+
+-- where none passes a test, there are none
+pub tally-none : (n : ℕ) (p : ℕ → Bool) → ((k : ℕ) → p k ≡ false) → tally n p ≡ 0
+unfolding tally weigh
+tally-none n p none = tally-past 0 n p (omega arith) (λ k l. none k)

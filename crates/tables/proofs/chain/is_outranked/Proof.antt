@@ -112,7 +112,7 @@ walk-again-2 c =
     let turn = at-climb .climb in
     let x : ℕ = at-walk .walk .x + 1 in
     let stop = stop-rank (a .view .now) (a .parents .now) (a .epochs .now) (a .last) (a .n) 0 (turn .at) (unended at-if1) _
-    (c .before .is-certified .ensures) _ (not-true _ (c .if3 .taken)) in
+    (c .before .is-certified-aside .ensures) _ (not-true _ (c .if3 .taken)) in
     let none : 0 ≡ rank (at-walk .before) x = sym (turn .inv .4 ∙ stop) in (
       omega (arith, at-walk .walk .inv .0),
       turn .inv .1,
@@ -130,13 +130,13 @@ climb-again c =
     let turn = at-climb .climb in
     let at : ℕ = turn .at in
     let under : parentIn (a .parents .now) (a .last) at < at = parent-in-lt (a .parents .now) (a .last) at (above at-if1) in
-    let holds : c .before .before .is-certified .result ≡ true = not-false _ (c .before .if3 .left) in
-    let next = next-rank (a .view .now) (a .parents .now) (a .epochs .now) (a .last) (a .n) 0 at (unended at-if1) _ (c .before .before .is-certified .ensures)
+    let holds : c .before .before .is-certified-aside .result ≡ true = not-false _ (c .before .if3 .left) in
+    let next = next-rank (a .view .now) (a .parents .now) (a .epochs .now) (a .last) (a .n) 0 at (unended at-if1) _ (c .before .before .is-certified-aside .ensures)
     (turn .climbed) holds in
     rw (c .parent-at .ensures) (
       omega (arith, under),
       turn .inv .1,
-      certified-enough (parentIn (a .parents .now) (a .last)) (epochIn (a .epochs .now) (a .last)) _ at _ _ (c .before .before .is-certified .ensures) holds,
+      certified-enough (parentIn (a .parents .now) (a .last)) (epochIn (a .epochs .now) (a .last)) _ at _ _ (c .before .before .is-certified-aside .ensures) holds,
       climb-next _ _ _ _ _ at _ (turn .inv .3) (parentIn (a .parents .now) (a .last) at) (omega arith) under (turn .inv .4),
       turn .inv .4 ∙ next,
     )
