@@ -4,11 +4,11 @@ use mathlib.Core.Path.{_≡_, refl, sym, _∙_}
 use mathlib.Core.Bool.{true, false}
 use native.Mathlib.Omega.{arith}
 use native.Mathlib.Decide.{decLt}
-use borrow.Author.Tests.{ne-eqb, lt-ltb, le-ltb}
+use borrow.Author.Tests.{ne-eqb, lt-ltb}
 use lib.Dec.{ltb}
 use lib.ListN.{getD}
 use Rattle.words.specs.Tests.{choose, both, either}
-use Rattle.words.specs.Digits.{digit, fill, inSet, setBits, setOf}
+use Rattle.words.specs.Digits.{digit, fill, inSet, setBits}
 use Rattle.words.proofs.Tests.{any-fails, both-none}
 use Rattle.words.proofs.Sums.{tally-ext, tally-past}
 use Rattle.words.proofs.Digits.{in-set, in-set-past, set-below, set-ext, set-none}
@@ -16,11 +16,11 @@ use Rattle.tables.specs.Messages.{saysIn}
 use Rattle.tables.specs.Searches.{signersIn, viewIn}
 use Rattle.tables.proofs.Views.{view-entry}
 use Rattle.register.specs.Types.{Book}
-use Rattle.register.specs.Books.{bookOf, scalarsOf}
+use Rattle.register.specs.Books.{bookOf}
 use Rattle.register.specs.Tables.{trusted, signerOf, aboutOf}
 use Rattle.register.specs.Views.{stage, says, signed, signers, signerSet, notarised}
 use Rattle.register.specs.Fitness.{fit}
-use Rattle.register.specs.Promises.{SignerBits, SignersAreBits, GenesisUnsigned}
+use Rattle.register.specs.Promises.{SignersAreBits, GenesisUnsigned}
 use Rattle.register.proofs.Ranges.{fit-counts, fit-messages}
 use Rattle.register.proofs.Searching.{signed-columns}
 

@@ -14,7 +14,7 @@ use lib.Dec.{eqb, ltb, leb}
 use lib.ListN.{length, length-set, getD, set, replicate, getD-replicate}
 use lib.Seq.{getD-set-same, getD-set-other, ext-getD}
 use Rattle.quorum.specs.Enough.{enough}
-use Rattle.words.specs.Digits.{digit, fill, setOf, withMember}
+use Rattle.words.specs.Digits.{digit, setOf, withMember}
 use Rattle.words.specs.Sums.{tally}
 use Rattle.words.specs.Tests.{choose, both, either, any}
 use Rattle.words.proofs.Tests.{any-fails, any-same, any-with, both-all, both-none, decided, either-left, either-none, either-right}
