@@ -30,8 +30,8 @@ pub fn check(log: &[u8]) -> Vec<u8> {
 }
 
 /// Enough bytes for the report on a log: a step takes 4 bits or more, its line
-/// `131072 26 1023` or less, an office's line `office 31 255 255` or less.
+/// `131072 26 1023` or less, an office's line `office 31 255 255 32` or less.
 pub fn room_for_report(log: &[u8]) -> usize {
     let most_steps = 2 * log.len().min(LONGEST_LOG);
-    most_steps * "131072 26 1023\n".len() + 32 * "office 31 255 255\n".len()
+    most_steps * "131072 26 1023\n".len() + 32 * "office 31 255 255 32\n".len()
 }

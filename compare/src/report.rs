@@ -2,7 +2,7 @@
 
 use crate::packed::{Log, read_log};
 use crate::refusal::Refusal;
-use crate::register::{Answer, Register};
+use crate::register::{Answer, Office, Register};
 
 /// The report on a log.
 pub fn check(log: &[u8]) -> Vec<u8> {
@@ -16,7 +16,7 @@ pub fn check(log: &[u8]) -> Vec<u8> {
 pub fn check_onto(log: &[u8], report: &mut Vec<u8>) {
     match open(log) {
         Ok((log, register)) => run(&log, register, report),
-        Err(refusal) => put_line(report, "log", &[refusal.number().into()]),
+        Err(refusal) => put_line(report, b"log ", [refusal.number().into()]),
     }
 }
 
@@ -32,9 +32,7 @@ fn run(log: &Log, mut register: Register, report: &mut Vec<u8>) {
         put_step(report, index + 1, register.step(step));
     }
     for office in register.trusted_offices() {
-        let last = register.final_block(office);
-        let length = register.chain_length(last);
-        put_line(report, "office", &[office.index(), last.index(), length]);
+        put_office(report, &register, office);
     }
 }
 
@@ -44,18 +42,26 @@ pub fn put_step(report: &mut Vec<u8>, place: usize, answer: Answer) {
         Ok(value) => (0, value),
         Err(refusal) => (refusal.number(), 0),
     };
-    put_number(report, place);
-    report.push(b' ');
-    put_number(report, refusal.into());
-    report.push(b' ');
-    put_number(report, value.into());
-    report.push(b'\n');
+    put_line(report, b"", [place, refusal.into(), value.into()]);
 }
 
-fn put_line(report: &mut Vec<u8>, word: &str, numbers: &[usize]) {
-    report.extend_from_slice(word.as_bytes());
-    for &number in numbers {
-        report.push(b' ');
+/// The office's number, its final block, the length of that block's chain and
+/// how many have signed the block in the office's view.
+pub fn put_office(report: &mut Vec<u8>, register: &Register, office: Office) {
+    let last = register.final_block(office);
+    let length = register.chain_length(last);
+    let signers = register.view(office).notarised(last).signers;
+    let numbers = [office.index(), last.index(), length, signers as usize];
+    put_line(report, b"office ", numbers);
+}
+
+/// How the line starts, then numbers parted by single spaces.
+fn put_line<const N: usize>(report: &mut Vec<u8>, start: &[u8], numbers: [usize; N]) {
+    report.extend_from_slice(start);
+    for (place, number) in numbers.into_iter().enumerate() {
+        if place > 0 {
+            report.push(b' ');
+        }
         put_number(report, number);
     }
     report.push(b'\n');

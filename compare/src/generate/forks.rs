@@ -73,7 +73,7 @@ impl Fork {
         for vote in votes {
             for &voter in &self.voters {
                 let MessageRecord { signer, block, .. } = *run.register.message(vote);
-                let enough = run.register.view(voter).is_notarised(block);
+                let enough = run.register.view(voter).notarised(block).holds;
                 if voter != signer && !(enough && run.random.chance(50)) {
                     run.deliver(vote, voter);
                     run.register(voter, vote);

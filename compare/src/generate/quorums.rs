@@ -140,7 +140,7 @@ fn missing_votes(run: &Run, office: Office, block: Block) -> Vec<Message> {
 
 /// How many signers a block lacks in an office's view to be notarised.
 fn lacking(run: &Run, office: Office, block: Block) -> usize {
-    let signers = run.register.view(office).signers(block).count_ones();
+    let signers = run.register.view(office).notarised(block).signers;
     let enough = |&more: &u32| is_quorum(signers + more, run.register.n());
     (0..).find(enough).expect("all are a quorum") as usize
 }

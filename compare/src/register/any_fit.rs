@@ -1,7 +1,8 @@
-//! The word of signers on fit registers of any content. In most of them a view
+//! Signers and their count on fit registers of any content. In most of them a view
 //! has several messages of one signer about one block, which no log can bring.
 
-use super::{Block, BlockRecord, Epoch, Kind, MessageRecord, Office, Opening, Place, Register};
+use super::{Block, BlockRecord, Epoch, Kind, MessageRecord, Notarised, Office, Opening, Place};
+use super::{GENESIS, Register};
 use crate::generate::Random;
 use std::collections::BTreeSet;
 
@@ -80,7 +81,8 @@ fn words_of_any_fit_register() {
     assert!(repeated > 10_000, "{repeated}");
 }
 
-/// Too few signers don't make a block notarised, however many their messages.
+/// Too few signers don't make a block notarised, however many their messages,
+/// and the count that the test gives back is one of signers.
 #[test]
 fn messages_of_one_signer_count_once() {
     let mut random = Random::new(4);
@@ -89,13 +91,17 @@ fn messages_of_one_signer_count_once() {
         let register = any_fit(&mut random);
         let n = u32::from(register.n());
         for office in (0..register.n()).map(Office) {
+            let view = register.view(office);
             for block in (1..=register.last_block().0).map(Block) {
                 let messages = signers_of_messages(&register, office, block);
                 let signers: BTreeSet<u8> = messages.iter().copied().collect();
-                let notarised = 3 * signers.len() as u32 >= 2 * n;
-                assert_eq!(register.view(office).is_notarised(block), notarised);
-                misled += usize::from(!notarised && 3 * messages.len() as u32 >= 2 * n);
+                let signers = signers.len() as u32;
+                let holds = 3 * signers >= 2 * n;
+                assert_eq!(view.notarised(block), Notarised { holds, signers });
+                misled += usize::from(!holds && 3 * messages.len() as u32 >= 2 * n);
             }
+            let (holds, signers) = (true, n);
+            assert_eq!(view.notarised(GENESIS), Notarised { holds, signers });
         }
     }
     assert!(misled > 500, "{misled}");

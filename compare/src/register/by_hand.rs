@@ -1,7 +1,7 @@
 //! Tests on registers made by hand, for what no log can show.
 
-use super::Register;
 use super::{Block, BlockRecord, Epoch, GENESIS, Kind, MessageRecord, Office, Opening, Place};
+use super::{Notarised, Register};
 use crate::refusal::Refusal;
 
 /// Three trusted offices, led by office 0, with these blocks (parent, epoch)
@@ -33,21 +33,40 @@ fn made(blocks: &[(u8, u16)], messages: &[(u8, u8)]) -> Register {
     register
 }
 
+/// What the test gives back of a block with enough signers.
+fn enough(signers: u32) -> Notarised {
+    let holds = true;
+    Notarised { holds, signers }
+}
+
+/// What the test gives back of a block with too few signers.
+fn too_few(signers: u32) -> Notarised {
+    let holds = false;
+    Notarised { holds, signers }
+}
+
 #[test]
 fn signers_are_counted_not_messages() {
     let register = made(&[(0, 1)], &[(1, 1), (1, 1)]);
-    assert!(!register.view(Office(0)).is_notarised(Block(1)));
+    assert_eq!(register.view(Office(0)).notarised(Block(1)), too_few(1));
     let register = made(&[(0, 1)], &[(1, 1), (1, 1), (2, 1)]);
-    assert!(register.view(Office(0)).is_notarised(Block(1)));
+    assert_eq!(register.view(Office(0)).notarised(Block(1)), enough(2));
 }
 
 #[test]
 fn only_the_view_counts() {
     let register = made(&[(0, 1)], &[(0, 1), (1, 1), (2, 1)]);
-    assert!(register.view(Office(0)).is_notarised(Block(1)));
-    assert!(!register.view(Office(1)).is_notarised(Block(1)));
-    assert!(!register.view(Office(2)).is_notarised(Block(1)));
-    assert!(register.view(Office(2)).is_notarised(GENESIS));
+    assert_eq!(register.view(Office(0)).notarised(Block(1)), enough(3));
+    assert_eq!(register.view(Office(1)).notarised(Block(1)), too_few(0));
+    assert_eq!(register.view(Office(2)).notarised(Block(1)), too_few(0));
+}
+
+#[test]
+fn all_offices_count_for_genesis() {
+    let register = made(&[(0, 1)], &[(0, 1), (1, 1)]);
+    for office in [0, 1, 2].map(Office) {
+        assert_eq!(register.view(office).notarised(GENESIS), enough(3));
+    }
 }
 
 #[test]
@@ -56,7 +75,7 @@ fn a_notarised_chain_is_valid() {
     let signed = [(0, 1), (1, 1), (0, 2), (1, 2), (0, 3), (1, 3)];
     let register = made(&[(0, 5), (1, 5), (2, 6)], &signed);
     let view = register.view(Office(0));
-    assert!(view.is_notarised(Block(2)));
+    assert!(view.notarised(Block(2)).holds);
     assert!(!view.is_notarised_chain(Block(2)));
     assert!(!view.is_notarised_chain(Block(3)));
     assert!(view.is_longest(Block(1)));
@@ -77,7 +96,7 @@ fn a_block_of_epoch_0_makes_no_chain() {
 fn a_gap_in_the_chain_hides_what_is_above() {
     let register = made(&[(0, 1), (1, 2)], &[(0, 2), (1, 2)]);
     let view = register.view(Office(0));
-    assert!(view.is_notarised(Block(2)));
+    assert!(view.notarised(Block(2)).holds);
     assert!(view.is_longest(GENESIS));
 }
 
@@ -164,7 +183,7 @@ fn genesis_is_the_only_oldest_block_of_epoch_0() {
     let blocks = [(0, 1), (1, 2), (0, 0), (3, 1), (4, 2)];
     let mut register = made(&blocks, &signed_up_to(5));
     let view = register.view(Office(0));
-    assert!((0..=5).map(Block).all(|block| view.is_notarised(block)));
+    assert!((0..=5).map(Block).all(|block| view.notarised(block).holds));
     let refused = Err(Refusal::NotFinal);
     for _ in 0..2 {
         assert_eq!(register.finalise(Office(0), Block(5)), refused);

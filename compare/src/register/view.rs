@@ -9,6 +9,14 @@ pub struct View<'a> {
     signers: [u32; LAST_BLOCK as usize + 1],
 }
 
+/// What the notarised test gives back.
+#[derive(Clone, Copy, Debug, PartialEq, Eq)]
+pub struct Notarised {
+    pub holds: bool,
+    /// How many different offices have signed, also if they are too few.
+    pub signers: u32,
+}
+
 /// 3 × (number of different signers) ≥ 2 × n.
 pub fn is_quorum(signers: u32, n: u8) -> bool {
     3 * signers >= 2 * u32::from(n)
@@ -43,11 +51,18 @@ impl View<'_> {
         self.signers(b) >> q.0 & 1 == 1
     }
 
-    /// A block is notarised if its different signers are a quorum; genesis
-    /// always is.
-    pub fn is_notarised(&self, block: Block) -> bool {
-        let signers = self.signers(block).count_ones();
-        block == GENESIS || is_quorum(signers, self.register.n())
+    /// A block is notarised if its different signers are a quorum. Genesis
+    /// always is: for it all n count, who are a quorum.
+    pub fn notarised(&self, block: Block) -> Notarised {
+        let n = self.register.n();
+        let signers = match block {
+            GENESIS => n.into(),
+            _ => self.signers(block).count_ones(),
+        };
+        Notarised {
+            holds: is_quorum(signers, n),
+            signers,
+        }
     }
 
     /// A chain is valid if each epoch is greater than its parent's, and
@@ -72,7 +87,7 @@ impl View<'_> {
     /// greater epoch than its parent.
     fn is_notarised_link(&self, block: Block) -> bool {
         let record = self.register.block(block);
-        self.is_notarised(block) && record.epoch > self.register.block(record.parent).epoch
+        self.notarised(block).holds && record.epoch > self.register.block(record.parent).epoch
     }
 
     /// Whether a notarised chain is longer than `length`. A parent's number is

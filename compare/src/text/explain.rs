@@ -3,7 +3,7 @@
 use super::{step_text, text_so_far};
 use crate::packed::read_log;
 use crate::register::{Answer, Message, Office, Register, Step};
-use crate::report::put_step;
+use crate::report::{put_office, put_step};
 use std::fmt::Write;
 
 /// The report on a log; beside each line the step's text and what became of it.
@@ -18,34 +18,35 @@ pub fn explain(log: &[u8]) -> String {
         let answer = register.step(step);
         let mut line = Vec::new();
         put_step(&mut line, index + 1, answer);
-        let line = String::from_utf8_lossy(&line);
-        put_row(
-            &mut text,
-            line.trim_end(),
-            &step_text(step),
-            &note(step, answer, &register),
-        );
+        let note = note(step, answer, &register);
+        put_row(&mut text, &line, &step_text(step), &note);
     }
     for office in register.trusted_offices() {
-        put_office(&mut text, &register, office);
+        let mut line = Vec::new();
+        put_office(&mut line, &register, office);
+        put_row(&mut text, &line, "", &office_note(&register, office));
     }
     text
 }
 
-fn put_row(text: &mut String, line: &str, step: &str, note: &str) {
-    writeln!(text, "{line:<18} {step:<26} {note}").expect("a string takes all");
+/// A line of the report, the step's text and the note.
+fn put_row(text: &mut String, line: &[u8], step: &str, note: &str) {
+    let line = String::from_utf8_lossy(line);
+    let line = line.trim_end();
+    writeln!(text, "{line:<21} {step:<26} {note}").expect("a string takes all");
 }
 
-fn put_office(text: &mut String, register: &Register, office: Office) {
+/// What is final for an office, and how many have signed it in its view.
+fn office_note(register: &Register, office: Office) -> String {
     let last = register.final_block(office);
-    let length = register.chain_length(last);
-    let line = format!("office {} {} {length}", office.0, last.0);
-    let note = match length {
-        0 => "nothing final but genesis".to_string(),
-        1 => format!("final block {}, a chain of 1 block", last.0),
-        _ => format!("final block {}, a chain of {length} blocks", last.0),
+    let blocks = match register.chain_length(last) {
+        0 => return "nothing final but genesis".to_string(),
+        1 => "1 block".to_string(),
+        length => format!("{length} blocks"),
     };
-    put_row(text, &line, "", &note);
+    let signers = register.view(office).notarised(last).signers;
+    let (block, n) = (last.0, register.n());
+    format!("final block {block}, a chain of {blocks}, signed by {signers} of {n}")
 }
 
 /// What became of a step; the register is the one after it.

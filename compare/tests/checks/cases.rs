@@ -55,14 +55,17 @@ fn case(name: &str, opening: &str, steps: &str, lines: &str, offices: &str) -> C
     }
 }
 
-/// A case in which no office gets anything final.
+/// A case in which no office gets anything final: genesis counts n signers.
 fn no_final(name: &str, opening: &str, steps: &str, lines: &str) -> Case {
-    let trusted = opening
-        .split(';')
-        .find_map(|part| part.trim().strip_prefix("trusted "));
-    let offices = trusted.expect("an opening").split(' ');
-    let offices: Vec<String> = offices
-        .map(|office| format!("office {office} 0 0"))
+    let after = |word: &str| {
+        let mut parts = opening.split(';');
+        let numbers = parts.find_map(|part| part.trim().strip_prefix(word));
+        numbers.expect("an opening")
+    };
+    let n = after("offices ");
+    let offices: Vec<String> = after("trusted ")
+        .split(' ')
+        .map(|office| format!("office {office} 0 0 {n}"))
         .collect();
     case(name, opening, steps, lines, &offices.join(", "))
 }

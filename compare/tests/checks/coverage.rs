@@ -217,7 +217,7 @@ impl FromGenesis {
             (None, [0, 1, 2]) => Some(Self::Final),
             (Some(Refusal::Behind), [0, 1, 2]) => Some(Self::Behind),
             (Some(Refusal::NotFinal), [0, 1, 2]) => {
-                view.is_notarised(block).then_some(Self::LowerUnseen)
+                view.notarised(block).holds.then_some(Self::LowerUnseen)
             }
             (Some(Refusal::NotFinal), [0, 2]) if notarised => Some(Self::Directly),
             (Some(Refusal::NotFinal), [0, 1, 3]) if notarised => Some(Self::Gap),

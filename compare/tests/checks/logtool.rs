@@ -48,7 +48,7 @@ fn explained() {
     assert_eq!(line(3).as_deref(), Some(wanted));
     let wanted = "19 0 2 finalise 1 3 accepted: block 2 is final";
     assert_eq!(line(18).as_deref(), Some(wanted));
-    let wanted = "office 1 2 2 final block 2, a chain of 2 blocks";
+    let wanted = "office 1 2 2 2 final block 2, a chain of 2 blocks, signed by 2 of 3";
     assert_eq!(line(20).as_deref(), Some(wanted));
 }
 
@@ -67,7 +67,7 @@ fn going_back_explained() {
         "8 0 3 finalise 0 4 accepted: block 3 is final",
         "9 32 0 finalise 0 3 behind: final chain would be shorter than the present one",
         "10 0 3 finalise 0 4 accepted: block 3 is final",
-        "office 0 3 3 final block 3, a chain of 3 blocks",
+        "office 0 3 3 1 final block 3, a chain of 3 blocks, signed by 1 of 1",
     ];
     assert_eq!(lines[7..], wanted);
 }
@@ -85,9 +85,9 @@ fn from_genesis_explained() {
         "13 0 1 finalise 1 2 accepted: block 1 is final",
         "18 21 0 finalise 0 3 not final: finalise condition unmet",
         "21 0 1 finalise 0 2 accepted: block 1 is final",
-        "office 0 1 1 final block 1, a chain of 1 block",
-        "office 1 1 1 final block 1, a chain of 1 block",
-        "office 2 0 0 nothing final but genesis",
+        "office 0 1 1 2 final block 1, a chain of 1 block, signed by 2 of 3",
+        "office 1 1 1 2 final block 1, a chain of 1 block, signed by 2 of 3",
+        "office 2 0 0 3 nothing final but genesis",
     ];
     assert_eq!(lines, wanted);
 }

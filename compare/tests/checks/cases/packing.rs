@@ -24,7 +24,7 @@ const TWO_EPOCHS: &str = "000011 111 000000010 00000 00000";
 /// n 1, trusted, leader 0: 21 bits.
 const ONE: &str = "000001 1 000000001 00000";
 
-const THREE_OFFICES: &str = "office 0 0 0, office 1 0 0, office 2 0 0";
+const THREE_OFFICES: &str = "office 0 0 0 3, office 1 0 0 3, office 2 0 0 3";
 
 /// A log with a step of each kind; the numbers are small but for the payload.
 const EIGHT_KINDS: &str = "000100 1110 000000010 00011 00000 \
@@ -58,13 +58,13 @@ fn good() -> Vec<Case> {
             "all eight kinds",
             EIGHT_KINDS,
             "1 0 1, 2 0 0, 3 0 0, 4 0 1, 5 0 1, 6 0 1, 7 21 0, 8 0 2, 9 0 2, 10 0 2, \
-             office 0 0 0, office 1 0 0, office 2 0 0",
+             office 0 0 0 4, office 1 0 0 4, office 2 0 0 4",
         ),
         bit_case(
             "the greatest fields",
             &wide,
             "1 6 0, 2 6 0, 3 8 0, 4 8 0, 5 7 0, 6 8 0, 7 6 0, 8 6 0, 9 7 0, 10 7 0, \
-             office 0 0 0, office 1 0 0, office 2 0 0",
+             office 0 0 0 3, office 1 0 0 3, office 2 0 0 3",
         ),
     ]
 }
@@ -77,7 +77,7 @@ fn openings() -> Vec<Case> {
         bit_case("length 0, then nothing", "000011 111 000000000", "log 2"),
         bit_case("length 257", "000011 111 100000001", "log 2"),
         bit_case("length 511", "000011 111 111111111", "log 2"),
-        bit_case("length 256", &long_schedule(), "office 0 0 0"),
+        bit_case("length 256", &long_schedule(), "office 0 0 0 1"),
         bit_case("leader n", "000011 111 000000001 00011 0000", "log 3"),
         bit_case("leader 31", "000001 1 000000001 11111 0000", "log 3"),
         bit_case(
@@ -103,7 +103,7 @@ fn openings() -> Vec<Case> {
         bit_case(
             "office 0 first among the trust bits",
             "000100 0111 000000001 00000 0000",
-            "office 1 0 0, office 2 0 0, office 3 0 0",
+            "office 1 0 0 4, office 2 0 0 4, office 3 0 0 4",
         ),
     ]
 }
@@ -127,7 +127,7 @@ fn thirds() -> Vec<Case> {
     let opens = |n, untrusted| {
         let name = format!("{untrusted} of {n} untrusted");
         let offices: Vec<String> = (0..n - untrusted)
-            .map(|q| format!("office {q} 0 0"))
+            .map(|q| format!("office {q} 0 0 {n}"))
             .collect();
         bit_case(&name, &opening(n, untrusted, "0000"), &offices.join(", "))
     };
@@ -224,7 +224,7 @@ fn endings() -> Vec<Case> {
         bit_case(
             "an end with seven pad bits",
             &format!("{ONE} 0000 0000000"),
-            "office 0 0 0",
+            "office 0 0 0 1",
         ),
         bit_case(
             "a byte behind the pad",
@@ -265,7 +265,7 @@ fn lengths() -> Vec<Case> {
     let mut report: String = (1..=131_065)
         .map(|place| format!("{place} 24 0\n"))
         .collect();
-    report.push_str("office 0 0 0\n");
+    report.push_str("office 0 0 0 1\n");
     vec![
         of_length("65,536 bytes, n 0", vec![], 65_536, "log 1\n"),
         of_length("65,537 bytes, n 0", vec![], 65_537, "log 30\n"),

@@ -166,21 +166,21 @@ fn finalising() -> Vec<Case> {
             ONE,
             &format!("{steps}; finalise 0 4; finalise 0 4"),
             &format!("{lines}, 8 0 3, 9 0 3"),
-            "office 0 3 3",
+            "office 0 3 3 1",
         ),
         case(
             "finalise doesn't go back, in a later epoch and unacted",
             ONE,
             &format!("{steps}; finalise 0 4; advance; finalise 0 3"),
             &format!("{lines}, 8 0 3, 9 0 5, 10 32 0"),
-            "office 0 3 3",
+            "office 0 3 3 1",
         ),
         case(
             "32 asks for the parent's chain, not for that of the block named",
             ONE,
             &format!("{steps}; finalise 0 4; finalise 0 3; finalise 0 4"),
             &format!("{lines}, 8 0 3, 9 32 0, 10 0 3"),
-            "office 0 3 3",
+            "office 0 3 3 1",
         ),
     ]
 }
@@ -203,7 +203,7 @@ fn own_final_chain() -> Vec<Case> {
         "offices 3; trusted 0 1 2; leaders 0 0 0 0 0",
         &script.steps(),
         &script.lines(),
-        "office 0 3 3, office 1 3 3, office 2 0 0",
+        "office 0 3 3 2, office 1 3 3 2, office 2 0 0 3",
     )]
 }
 
@@ -226,7 +226,7 @@ fn own_chain_from_genesis() -> Vec<Case> {
         "offices 3; trusted 0 1 2; leaders 0 0 0 0",
         &script.steps(),
         &script.lines(),
-        "office 0 1 1, office 1 2 2, office 2 0 0",
+        "office 0 1 1 2, office 1 2 2 2, office 2 0 0 3",
     )]
 }
 
@@ -264,7 +264,7 @@ fn whole_chain() -> Vec<Case> {
         "offices 4; trusted 0 1 2; leaders 3 3 3 3",
         &script.steps(),
         &script.lines(),
-        "office 0 3 3, office 1 0 0, office 2 0 0",
+        "office 0 3 3 3, office 1 0 0 4, office 2 0 0 4",
     )]
 }
 
@@ -287,7 +287,7 @@ fn whole_chain_from_genesis() -> Vec<Case> {
         "offices 4; trusted 0 1 2; leaders 3 3",
         &script.steps(),
         &script.lines(),
-        "office 0 1 1, office 1 1 1, office 2 0 0",
+        "office 0 1 1 3, office 1 1 1 3, office 2 0 0 4",
     )]
 }
 
@@ -356,7 +356,7 @@ fn values() -> Vec<Case> {
             "propose 0 0 1; advance; draft 0 9 9; propose 0 1 2; advance; propose 0 3 3; \
              finalise 0 4",
             "1 0 0, 2 0 2, 3 0 2, 4 0 1, 5 0 3, 6 0 2, 7 0 3",
-            "office 0 3 2",
+            "office 0 3 2 1",
         ),
         no_final("no steps", THREE, "", ""),
         no_final(

@@ -391,39 +391,39 @@ const ALONE: &[Row] = &[
         "propose 19, parent not longest",
         "propose 0 0 7; advance; propose 0 0 8; propose 0 1 8",
         "1 0 0, 2 0 2, 3 19 0, 4 0 1",
-        "office 0 0 0",
+        "office 0 0 0 1",
     ),
     (
         "finalise 21, genesis among the three but not the oldest",
         "propose 0 0 1; advance; propose 0 1 2; advance; propose 0 2 3; \
              finalise 0 0; finalise 0 1; finalise 0 2; finalise 0 3",
         "1 0 0, 2 0 2, 3 0 1, 4 0 3, 5 0 2, 6 21 0, 7 21 0, 8 0 1, 9 0 2",
-        "office 0 2 2",
+        "office 0 2 2 1",
     ),
     (
         "finalise 21, a gap between d and c",
         "propose 0 0 1; advance; advance; propose 0 1 2; advance; propose 0 2 3; finalise 0 3",
         "1 0 0, 2 0 2, 3 0 3, 4 0 1, 5 0 4, 6 0 2, 7 21 0",
-        "office 0 0 0",
+        "office 0 0 0 1",
     ),
     (
         "finalise 21, a gap between c and b",
         "propose 0 0 1; advance; propose 0 1 2; advance; advance; propose 0 2 3; finalise 0 3",
         "1 0 0, 2 0 2, 3 0 1, 4 0 3, 5 0 4, 6 0 2, 7 21 0",
-        "office 0 0 0",
+        "office 0 0 0 1",
     ),
     (
         "finalise with a gap below d",
         "propose 0 0 1; advance; advance; propose 0 1 2; advance; propose 0 2 3; \
              advance; propose 0 3 4; finalise 0 4",
         "1 0 0, 2 0 2, 3 0 3, 4 0 1, 5 0 4, 6 0 2, 7 0 5, 8 0 3, 9 0 3",
-        "office 0 3 3",
+        "office 0 3 3 1",
     ),
     (
         "finalise 21, b not notarised",
         "propose 0 0 1; advance; propose 0 1 2; draft 2 3 3; finalise 0 3",
         "1 0 0, 2 0 2, 3 0 1, 4 0 3, 5 21 0",
-        "office 0 0 0",
+        "office 0 0 0 1",
     ),
     (
         "finalise 32, older runs of three, then the same run again",
@@ -431,7 +431,7 @@ const ALONE: &[Row] = &[
              advance; propose 0 4 5; finalise 0 5; finalise 0 4; finalise 0 3; finalise 0 5",
         "1 0 0, 2 0 2, 3 0 1, 4 0 3, 5 0 2, 6 0 4, 7 0 3, 8 0 5, 9 0 4, 10 0 4, 11 32 0, \
              12 32 0, 13 0 4",
-        "office 0 4 4",
+        "office 0 4 4 1",
     ),
     (
         "finalise 32, not while genesis is final, nor for a longer chain",
@@ -439,28 +439,28 @@ const ALONE: &[Row] = &[
              finalise 0 3; finalise 0 4; finalise 0 3; advance; propose 0 4 5; finalise 0 5",
         "1 0 0, 2 0 2, 3 0 1, 4 0 3, 5 0 2, 6 0 4, 7 0 3, 8 0 2, 9 0 3, 10 32 0, 11 0 5, \
              12 0 4, 13 0 4",
-        "office 0 4 4",
+        "office 0 4 4 1",
     ),
     (
         "finalise 21, before 32, genesis among the three but not the oldest",
         "propose 0 0 1; advance; propose 0 1 2; advance; propose 0 2 3; advance; propose 0 3 4; \
              finalise 0 4; finalise 0 2; finalise 0 1; finalise 0 0",
         "1 0 0, 2 0 2, 3 0 1, 4 0 3, 5 0 2, 6 0 4, 7 0 3, 8 0 3, 9 32 0, 10 21 0, 11 21 0",
-        "office 0 3 3",
+        "office 0 3 3 1",
     ),
     (
         "finalise 21, before 32, a gap between d and c",
         "propose 0 0 1; advance; advance; propose 0 1 2; advance; propose 0 2 3; \
              advance; propose 0 3 4; finalise 0 4; finalise 0 3",
         "1 0 0, 2 0 2, 3 0 3, 4 0 1, 5 0 4, 6 0 2, 7 0 5, 8 0 3, 9 0 3, 10 21 0",
-        "office 0 3 3",
+        "office 0 3 3 1",
     ),
     (
         "finalise 21, before 32, b not notarised",
         "propose 0 0 1; advance; propose 0 1 2; advance; propose 0 2 3; advance; propose 0 3 4; \
              draft 2 3 9; finalise 0 4; finalise 0 5; finalise 0 3",
         "1 0 0, 2 0 2, 3 0 1, 4 0 3, 5 0 2, 6 0 4, 7 0 3, 8 0 5, 9 0 3, 10 21 0, 11 32 0",
-        "office 0 3 3",
+        "office 0 3 3 1",
     ),
 ];
 
@@ -470,70 +470,70 @@ const FROM_GENESIS: &[Row] = &[
         "finalise, genesis the oldest of the three",
         "propose 0 0 1; advance; propose 0 1 2; finalise 0 2",
         "1 0 0, 2 0 2, 3 0 1, 4 0 1",
-        "office 0 1 1",
+        "office 0 1 1 1",
     ),
     (
         "finalise 21, genesis itself",
         "finalise 0 0",
         "1 21 0",
-        "office 0 0 0",
+        "office 0 0 0 1",
     ),
     (
         "finalise 21, epoch 1 directly on genesis",
         "propose 0 0 1; finalise 0 1",
         "1 0 0, 2 21 0",
-        "office 0 0 0",
+        "office 0 0 0 1",
     ),
     (
         "finalise 21, epoch 2 directly on genesis",
         "advance; propose 0 0 1; finalise 0 1",
         "1 0 2, 2 0 0, 3 21 0",
-        "office 0 0 0",
+        "office 0 0 0 1",
     ),
     (
         "finalise 21, epoch 3 on 1 on genesis",
         "propose 0 0 1; advance; advance; propose 0 1 2; finalise 0 2",
         "1 0 0, 2 0 2, 3 0 3, 4 0 1, 5 21 0",
-        "office 0 0 0",
+        "office 0 0 0 1",
     ),
     (
         "finalise 21, epoch 3 on 2 on genesis, which isn't of epoch 1",
         "advance; propose 0 0 1; advance; propose 0 1 2; finalise 0 2",
         "1 0 2, 2 0 0, 3 0 3, 4 0 1, 5 21 0",
-        "office 0 0 0",
+        "office 0 0 0 1",
     ),
     (
         "finalise 21, epoch 2 drafted on 1 on genesis, b not notarised",
         "propose 0 0 1; draft 1 2 2; finalise 0 2; advance; propose 0 1 2; finalise 0 2",
         "1 0 0, 2 0 2, 3 21 0, 4 0 2, 5 0 1, 6 0 1",
-        "office 0 1 1",
+        "office 0 1 1 1",
     ),
     (
         "finalise 21 on a drafted block of epoch 0, not on genesis",
         "draft 0 0 5; propose 0 1 6; draft 1 1 6; draft 2 2 7; finalise 0 3; \
              propose 0 0 6; advance; propose 0 4 7; finalise 0 5; finalise 0 3",
         "1 0 1, 2 19 0, 3 0 2, 4 0 3, 5 21 0, 6 0 0, 7 0 2, 8 0 1, 9 0 4, 10 21 0",
-        "office 0 4 1",
+        "office 0 4 1 1",
     ),
     (
         "finalise 32, genesis the oldest of the three, but not while that run is final",
         "propose 0 0 1; advance; propose 0 1 2; finalise 0 2; finalise 0 2; advance; \
              propose 0 2 3; finalise 0 2; finalise 0 3; finalise 0 2; finalise 0 3",
         "1 0 0, 2 0 2, 3 0 1, 4 0 1, 5 0 1, 6 0 3, 7 0 2, 8 0 1, 9 0 2, 10 32 0, 11 0 2",
-        "office 0 2 2",
+        "office 0 2 2 1",
     ),
     (
         "finalise 21, before 32, epoch 3 on 1 on genesis",
         "propose 0 0 1; advance; advance; propose 0 1 2; advance; propose 0 2 3; \
              advance; propose 0 3 4; finalise 0 4; finalise 0 2",
         "1 0 0, 2 0 2, 3 0 3, 4 0 1, 5 0 4, 6 0 2, 7 0 5, 8 0 3, 9 0 3, 10 21 0",
-        "office 0 3 3",
+        "office 0 3 3 1",
     ),
     (
         "finalise 21, before 32, epoch 3 on 2 on genesis",
         "advance; propose 0 0 1; advance; propose 0 1 2; advance; propose 0 2 3; \
              advance; propose 0 3 4; finalise 0 4; finalise 0 2",
         "1 0 2, 2 0 0, 3 0 3, 4 0 1, 5 0 4, 6 0 2, 7 0 5, 8 0 3, 9 0 3, 10 21 0",
-        "office 0 3 3",
+        "office 0 3 3 1",
     ),
 ];
