@@ -1,5 +1,6 @@
 //! Hand-written cases with their exact reports.
 
+mod counts;
 mod full;
 mod packing;
 mod readings;
@@ -25,6 +26,7 @@ pub fn all() -> Vec<Case> {
         steps::cases(),
         readings::cases(),
         signers::cases(),
+        counts::cases(),
         full::cases(),
         packing::cases(),
     ];
@@ -39,6 +41,13 @@ const BAD_LEADER: &str = "offices 4; trusted 0 1 2; leaders 3 0 1 2";
 const BAD_OFFICE: &str = "offices 4; trusted 0 1 2; leaders 0 1 2 0";
 /// One office, so that its own proposals are notarised.
 const ONE: &str = "offices 1; trusted 0; leaders 0 0 0 0 0";
+
+/// 32 offices, all trusted, and these leaders.
+fn opening_of_32(leaders: &str) -> String {
+    let all: Vec<String> = (0..32).map(|office: usize| office.to_string()).collect();
+    let trusted = all.join(" ");
+    format!("offices 32; trusted {trusted}; leaders {leaders}")
+}
 
 /// A case as the paper writes it: steps parted by semicolons, lines by commas.
 fn case(name: &str, opening: &str, steps: &str, lines: &str, offices: &str) -> Case {
@@ -78,6 +87,30 @@ impl Script {
     /// Adds a step and its answer: 0 or the refusal, the value.
     fn take(&mut self, step: &str, answer: &str) {
         self.0.push((step.to_string(), answer.to_string()));
+    }
+
+    /// A message comes to an office.
+    fn deliver(&mut self, message: usize, office: usize) {
+        let step = format!("deliver {message} {office}");
+        self.take(&step, &format!("0 {message}"));
+    }
+
+    /// An office registers a vote that it has.
+    fn register(&mut self, office: usize, vote: usize) {
+        let step = format!("register {office} {vote}");
+        self.take(&step, &format!("0 {vote}"));
+    }
+
+    /// A vote comes into an office's view.
+    fn enter(&mut self, vote: usize, office: usize) {
+        self.deliver(vote, office);
+        self.register(office, vote);
+    }
+
+    /// An office gets a proposal and votes for it; the vote has this number.
+    fn vote(&mut self, office: usize, proposal: usize, vote: usize) {
+        self.deliver(proposal, office);
+        self.take(&format!("vote {office} {proposal}"), &format!("0 {vote}"));
     }
 
     fn steps(&self) -> String {
@@ -142,6 +175,11 @@ fn readings() {
 #[test]
 fn each_of_32_signers_decides() {
     assert_cases(signers::cases());
+}
+
+#[test]
+fn counts_of_signers() {
+    assert_cases(counts::cases());
 }
 
 #[test]

@@ -1,24 +1,10 @@
 //! One signer of 32 decides: 21 are too few, 22 are enough.
 
-use super::{Case, Script, no_final};
+use super::{Case, Script, no_final, opening_of_32};
 
 /// A case for each office as the signer who decides.
 pub fn cases() -> Vec<Case> {
     (0..32).map(decided_by).collect()
-}
-
-impl Script {
-    /// A message comes to an office.
-    fn deliver(&mut self, message: usize, office: usize) {
-        let step = format!("deliver {message} {office}");
-        self.take(&step, &format!("0 {message}"));
-    }
-
-    /// An office registers a vote that it has.
-    fn register(&mut self, office: usize, vote: usize) {
-        let step = format!("register {office} {vote}");
-        self.take(&step, &format!("0 {vote}"));
-    }
 }
 
 /// 22 offices sign block 1. The second of them leads epoch 2 and may not propose
@@ -31,13 +17,11 @@ fn decided_by(decider: usize) -> Case {
     let mut script = Script::default();
     script.take(&format!("propose {first} 0 7"), "0 0");
     for (place, signer) in signers.iter().enumerate().skip(1) {
-        script.deliver(0, *signer);
-        script.take(&format!("vote {signer} 0"), &format!("0 {place}"));
+        script.vote(*signer, 0, place);
     }
     script.take("advance", "0 2");
     for vote in 2..21 {
-        script.deliver(vote, second);
-        script.register(second, vote);
+        script.enter(vote, second);
     }
     let propose = format!("propose {second} 1 8");
     script.take(&propose, "19 0");
@@ -45,9 +29,7 @@ fn decided_by(decider: usize) -> Case {
     script.take(&propose, "19 0");
     script.register(second, 21);
     script.take(&propose, "0 22");
-    let all: Vec<String> = (0..32).map(|office: usize| office.to_string()).collect();
-    let trusted = all.join(" ");
-    let opening = format!("offices 32; trusted {trusted}; leaders {first} {second}");
+    let opening = opening_of_32(&format!("{first} {second}"));
     let name = format!("office {decider} of 32 decides");
     no_final(&name, &opening, &script.steps(), &script.lines())
 }
