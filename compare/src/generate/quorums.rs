@@ -1,6 +1,6 @@
 //! Quorums: each office sees just enough signers of a block, or one too few, so
 //! that one signer decides what it may do in the next epoch and what is final
-//! for it.
+//! for it. What is final gets more signers in the end.
 
 use super::openings::opening_of_many;
 use super::random::Random;
@@ -22,6 +22,7 @@ pub fn run(mut random: Random) -> Run {
         }
         run.advance();
     }
+    late_votes(&mut run);
     run
 }
 
@@ -120,6 +121,24 @@ fn gather(run: &mut Run, office: Office, block: Block) {
         5..7 => run.deliver(last, office),
         7 => {}
         _ => repeat_signature(run, office, block),
+    }
+}
+
+/// Each office gets none, some or all of the votes that it lacks for its final
+/// block, and leaves a few of them in its inbox.
+fn late_votes(run: &mut Run) {
+    for office in run.trusted() {
+        let last = run.register.final_block(office);
+        let mut votes = missing_votes(run, office, last);
+        run.random.shuffle(&mut votes);
+        let some = run.random.below(votes.len() + 1);
+        let late = run.random.pick(&[0, some, votes.len()]);
+        for &vote in &votes[..late] {
+            match run.random.chance(95) {
+                true => enter(run, office, vote),
+                false => run.deliver(vote, office),
+            }
+        }
     }
 }
 

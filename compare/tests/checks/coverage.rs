@@ -103,11 +103,12 @@ fn generated_logs_bring_forks() {
 }
 
 /// Takes the steps of a log, if it reads, and leaves those that finalise to
-/// `finalise`.
-fn with_finalise_steps(log: &[u8], mut finalise: impl FnMut(&mut Register, Office, Block)) {
-    let Ok(log) = read_log(log) else {
-        return;
-    };
+/// `finalise`. Gives the register after them.
+pub fn with_finalise_steps(
+    log: &[u8],
+    mut finalise: impl FnMut(&mut Register, Office, Block),
+) -> Option<Register> {
+    let log = read_log(log).ok()?;
     let mut register = Register::open(&log.opening).expect("a log that reads opens");
     for step in &log.steps {
         if let Step::Finalise { office, block } = *step {
@@ -116,6 +117,7 @@ fn with_finalise_steps(log: &[u8], mut finalise: impl FnMut(&mut Register, Offic
             let _ = register.step(step);
         }
     }
+    Some(register)
 }
 
 /// How many finalise steps do what to the final chain of their office.

@@ -1,10 +1,11 @@
 //! The tests: hand-written cases, what the generated logs bring, what the logs
 //! to measure with are, that final chains agree and never go back, who has
-//! signed a block, the text form, the tool, and (feature `proved`) the comparison
-//! of both checkers and the proved program.
+//! signed a block and how many have, the text form, the tool, and (feature
+//! `proved`) the comparison of both checkers and the proved program.
 
 mod agreement;
 mod cases;
+mod counts;
 mod coverage;
 mod decided;
 mod forks;
@@ -21,12 +22,17 @@ mod reports;
 mod signers;
 mod text;
 
-/// How many generated logs the tests look at, and the first seed.
+/// The seeds of the generated logs that the tests look at.
 fn seeds() -> std::ops::Range<u64> {
+    seeds_or(4000)
+}
+
+/// As many seeds as `SKOVARNEK_LOGS` says, or else this many.
+fn seeds_or(logs: u64) -> std::ops::Range<u64> {
     let number = |name: &str, default: u64| match std::env::var(name) {
         Ok(value) => value.parse().expect("a number"),
         Err(_) => default,
     };
     let first = number("SKOVARNEK_FIRST_SEED", 0);
-    first..first + number("SKOVARNEK_LOGS", 4000)
+    first..first + number("SKOVARNEK_LOGS", logs)
 }

@@ -1,12 +1,13 @@
-//! The word of signers against its plain definition: office q's signature on b
-//! is in a view if a message there has signer q and block b.
+//! The word of signers and the notarised test against their plain definitions:
+//! office q's signature on b is in a view if a message there has signer q and
+//! block b.
 
 use super::forks::register_after;
 use super::seeds;
 use skovarnek_compare::generate;
 use skovarnek_compare::packed::{Log, read_log};
 use skovarnek_compare::refusal::Refusal;
-use skovarnek_compare::register::{Block, GENESIS, Message, Office, Place, Register};
+use skovarnek_compare::register::{Block, GENESIS, Message, Notarised, Office, Place, Register};
 use std::collections::BTreeSet;
 
 /// The signers of the messages about a block in an office's view, one for each
@@ -24,6 +25,25 @@ fn signers_of_messages(register: &Register, office: Office, block: Block) -> Vec
     signers
 }
 
+/// How many different offices below n have signed a block in an office's view;
+/// n for genesis.
+pub fn count_of_signers(register: &Register, office: Office, block: Block) -> u32 {
+    if block == GENESIS {
+        return register.n().into();
+    }
+    let signers = signers_of_messages(register, office, block);
+    (0..register.n()).filter(|q| signers.contains(q)).count() as u32
+}
+
+/// What the notarised test gives back of a block in the view of an office below
+/// n: the count, and whether it is enough.
+fn assert_notarised(name: &str, register: &Register, office: Office, block: Block) {
+    let signers = count_of_signers(register, office, block);
+    let holds = block == GENESIS || 3 * signers >= 2 * u32::from(register.n());
+    let wanted = Notarised { holds, signers };
+    assert_eq!(register.view(office).notarised(block), wanted, "{name}");
+}
+
 /// The word of a block in the view of an office below n.
 fn assert_word(name: &str, register: &Register, office: Office, block: Block) {
     let word = register.view(office).signers(block);
@@ -38,9 +58,9 @@ fn assert_word(name: &str, register: &Register, office: Office, block: Block) {
     assert!(block != GENESIS || word == 0, "{name}");
 }
 
-/// The words of all blocks for all offices. A number from n up is no office's:
+/// The signers of all blocks for all offices. A number from n up is no office's:
 /// there is no view, and a step that names it is refused with 6.
-fn assert_words(seed: u64, register: &mut Register) {
+fn assert_signers(seed: u64, register: &mut Register) {
     for office in (0..32).map(Office) {
         if office.0 >= register.n() {
             let refused = Err(Refusal::NoOffice);
@@ -50,6 +70,7 @@ fn assert_words(seed: u64, register: &mut Register) {
         for block in (0..=register.last_block().0).map(Block) {
             let name = format!("seed {seed}: {office:?}, {block:?}");
             assert_word(&name, register, office, block);
+            assert_notarised(&name, register, office, block);
         }
     }
 }
@@ -69,10 +90,10 @@ fn at_moments(log: &Log, mut look: impl FnMut(&mut Register)) {
 }
 
 #[test]
-fn words_are_the_signers() {
+fn words_and_counts_are_those_of_the_signers() {
     for seed in seeds().take(800) {
         if let Ok(log) = read_log(&generate::log(seed)) {
-            at_moments(&log, |register| assert_words(seed, register));
+            at_moments(&log, |register| assert_signers(seed, register));
         }
     }
 }
