@@ -16,9 +16,11 @@
 //! `cargo test --release` checks this package by itself. With `--features
 //! proved`, and `SKOVARNEK_LIB_DIR` set to the folder of `libskovarnek.a`, it
 //! compares both checkers too. `SKOVARNEK_LOGS` sets how many generated logs the
-//! tests take and `SKOVARNEK_FIRST_SEED` where their seeds start. `cargo run
-//! --release --features proved --bin bench` measures both on long logs. `--bin
-//! reports` writes the proved checker's reports, to compare two builds of it.
+//! tests take and `SKOVARNEK_FIRST_SEED` where their seeds start. If the first is
+//! set, so many logs (20,000 at most) are also checked with buffers of every
+//! length around their reports', else only 200. `cargo run --release --features
+//! proved --bin bench` measures both on long logs. `--bin reports` writes the
+//! proved checker's reports, to compare two builds of it.
 
 pub mod generate;
 pub mod packed;

@@ -1,10 +1,15 @@
 //! Both checkers, byte for byte.
 
-use super::{cases, seeds};
+use super::{cases, seeds, seeds_or};
 use skovarnek_compare::{check, generate, proved, text};
+use std::thread;
 
 /// Fills the lent buffer before a call, so that each byte written shows.
 const DIRT: u8 = 0xA5;
+
+/// Every buffer length is tried that is so near to the report's: an office's line
+/// and one byte more.
+const AROUND: usize = "office 31 255 255 32\n".len() + 1;
 
 fn assert_same(name: &str, log: &[u8]) {
     let (ours, theirs) = (check(log), proved::check(log));
@@ -51,12 +56,12 @@ fn assert_buffer(name: &str, log: &[u8], report: &[u8], length: usize) {
 /// Every length around the report's, and all shorter ones if they are few.
 fn assert_buffers(name: &str, log: &[u8]) {
     let report = check(log);
-    let around = report.len().saturating_sub(20)..=report.len() + 20;
+    let least = report.len().saturating_sub(AROUND);
     let shorter = match report.len() {
-        0..200 => (0..report.len()).collect(),
+        0..200 => (0..least).collect(),
         _ => vec![0, 1, 2, 3, 7, report.len() / 3, report.len() / 2],
     };
-    for length in shorter.into_iter().chain(around) {
+    for length in shorter.into_iter().chain(least..=report.len() + AROUND) {
         assert_buffer(name, log, &report, length);
     }
     assert_buffer(name, log, &report, report.len() + 4096);
@@ -89,18 +94,30 @@ fn every_cut_of_generated_logs() {
 }
 
 #[test]
-fn buffers_of_every_length() {
+fn buffers_for_the_cases() {
     for case in cases::all() {
         if case.report.len() < 20_000 {
             assert_buffers(&case.name, &case.log);
         }
     }
-    for seed in seeds().take(200) {
-        let log = generate::log(seed);
-        if log.len() < 2_000 {
-            assert_buffers(&format!("seed {seed}"), &log);
+}
+
+/// Logs of any size, in all of which every length around the report's is tried:
+/// as many logs as are asked for, up to 20,000, or else 200. Each call checks the
+/// whole log again, so that the seeds are shared out among the cores.
+#[test]
+fn buffers_for_generated_logs() {
+    let threads = thread::available_parallelism().map_or(1, usize::from);
+    thread::scope(|scope| {
+        for first in 0..threads {
+            let seeds = seeds_or(200).take(20_000).skip(first).step_by(threads);
+            scope.spawn(move || {
+                for seed in seeds {
+                    assert_buffers(&format!("seed {seed}"), &generate::log(seed));
+                }
+            });
         }
-    }
+    });
 }
 
 /// The longest report, in a buffer that fits exactly and in one too short.
