@@ -10,10 +10,11 @@ use lib.Dec.{eqb}
 use Rattle.words.specs.Tests.{both, member}
 use Rattle.words.specs.Sums.{tally, unit, weigh}
 use Rattle.words.proofs.Tests.{both-right, either-cases, any-at}
-use Rattle.words.proofs.Sums.{always, tally-always}
+use Rattle.words.proofs.Sums.{always, tally-always, tally-below}
 use Rattle.quorum.proofs.Enough.{enough-least}
 use Rattle.quorum.proofs.Quorum.{quorum}
 use Rattle.register.specs.declared.book.Book.{Book}
+use Rattle.register.specs.Limits.{mostOffices}
 use Rattle.register.specs.Tables.{trusted, parentOf, epochOf}
 use Rattle.register.specs.Views.{inView, says, signed, notarised}
 use Rattle.register.specs.Chains.{chain, chainLength, chainNotarised}
@@ -29,10 +30,11 @@ in-history r q h b t =
     signature r h b (f .0) (f .1) (both-right _ _ (f .2))
 
 -- a notarised block other than genesis has signers of two thirds of the offices
-two-thirds : (r : Book) (q b : ℕ) → 0 < b → notarised r q b ≡ true → 2 * r .n ≤ 3 * tally (r .n) (λ h. signed r q h b)
+two-thirds : (r : Book) → r .n ≤ mostOffices → (q b : ℕ) → 0 < b → notarised r q b ≡ true → 2 * r .n ≤ 3 * tally (r .n) (λ h. signed r q h b)
 unfolding notarised
-two-thirds r q b pos t =
-    ⊎-elim (λ z. absurd (omega (arith, eqb-true b 0 z))) (λ e. enough-least _ (r .n) e) (either-cases (eqb b 0) _ t)
+two-thirds r offices q b pos t =
+    let below = tally-below (r .n) mostOffices (λ h. signed r q h b) offices in
+    ⊎-elim (λ z. absurd (omega (arith, eqb-true b 0 z))) (λ e. omega (arith, below, enough-least _ (r .n) e)) (either-cases (eqb b 0) _ t)
 
 module _ {r : Book} (safe : Safe r) where
   -- two notarised blocks share a trusted signer
@@ -41,9 +43,10 @@ module _ {r : Book} (safe : Safe r) where
   unfolding tally
   shared-signer p q x y px py nx ny =
       let whole : weigh unit (r .n) always ≡ r .n = tally-always (r .n) in
+      let offices : r .n ≤ mostOffices = safe .ranges .counts .offices in
       let f : (h : ℕ) × (h < r .n) × (signed r p h x ≡ true) × (signed r q h y ≡ true) × (not (trusted r h) ≡ false) =
       quorum unit (r .n) (λ h. not (trusted r h)) (λ h. signed r p h x) (λ h. signed r q h y)
-      (omega (arith, safe .few)) (omega (arith, two-thirds r p x px nx)) (omega (arith, two-thirds r q y py ny)) in
+      (omega (arith, safe .few)) (omega (arith, two-thirds r offices p x px nx)) (omega (arith, two-thirds r offices q y py ny)) in
       (f .0, not-false _ (f .4), in-history r p (f .0) x (f .2), in-history r q (f .0) y (f .3))
 
   -- so the last blocks of two notarised chains are ordered

@@ -2,6 +2,7 @@
 -- leader. All that is told of them is computed from the rules.
 use Prim.Native.Nat.{ℕ, _≤_}
 use mathlib.Core.Path.{_≡_, refl}
+use mathlib.Core.Bool.{true, false}
 use mathlib.Core.List.{List, [], _∷_, _++_, map}
 use native.Mathlib.Omega.{arith}
 use lib.ListN.{length, replicate}
@@ -22,7 +23,7 @@ use Rattle.register.specs.declared.step.Step.{Step}
 use Rattle.register.specs.declared.table.Stepped.{Stepped}
 use Rattle.register.specs.Books.{office, epoch, block, bookOf, registerOf}
 use Rattle.register.specs.Tables.{isVote}
-use Rattle.register.specs.Views.{stage, signed, signerSet, notarised}
+use Rattle.register.specs.Views.{stage, signed, signerSet, notarised, signersOn, notarisedTest}
 use Rattle.register.specs.Chains.{chain, begins, chainNotarised, longest}
 use Rattle.register.specs.Fitness.{countsFit, blockFits, messageFits, stateFits, fit}
 use Rattle.register.specs.Refusals.{consecutive, finalises}
@@ -181,7 +182,8 @@ fork = record { n = 4; trust = 7; schedule = 3 ∷ 2 ∷ 1 ∷ 2 ∷ 1 ∷ []; a
 -- what the run shows: every step is accepted but the one that names block 4 too early, which gets 21, and the one that would go back, which gets 32; at
 -- moment 47 office 2's final chain is that of block 4, and at the end that of block 5; before, at moment 42, the longer chain of block 5 is notarised in
 -- office 1's view; and at moment 47 the chain of block 1, which forks off from both, is notarised in office 0's. Of block 1 office 0 has the signatures
--- of 0, 1 and 3, bits of the word 1 + 2 + 8; office 1, whom the vote of office 0 has not reached, those of 1 and 3.
+-- of 0, 1 and 3, bits of the word 1 + 2 + 8; office 1, whom the vote of office 0 has not reached, those of 1 and 3. So the notarised test tells the one
+-- that three signed, which is enough of four, and the other that two did; of genesis it tells every office four, and an office without a view nothing.
 pub record Forked : Type 0 where
   pub refusals : map (λ (s : Stepped). s .refusal) (answers (opened fork) (fork .steps))
       ≡ replicate 34 0 ++ (21 ∷ replicate 20 0 ++ (32 ∷ 0 ∷ []))
@@ -192,13 +194,17 @@ pub record Forked : Type 0 where
   pub shorter : chainOf (moment fork 47) (block 1) ≡ 1 ∷ []
   pub signed-there : signerSet (bookOf (moment fork 47)) 0 1 ≡ 11
   pub signed-elsewhere : signerSet (bookOf (moment fork 47)) 1 1 ≡ 10
+  pub told-there : notarisedTest (bookOf (moment fork 47)) 0 1 ≡ record { holds = true; signers = 3 }
+  pub told-elsewhere : notarisedTest (bookOf (moment fork 47)) 1 1 ≡ record { holds = false; signers = 2 }
+  pub told-genesis : notarisedTest (bookOf (moment fork 47)) 1 0 ≡ record { holds = true; signers = 4 }
+  pub told-nobody : notarisedTest (bookOf (moment fork 47)) 3 1 ≡ record { holds = false; signers = 0 }
 
 -- they do, as the rules compute
 pub runs-show : Started × Forked
-unfolding finalChain chainOf Trusted Notarised moment start start-steps fork fork-steps answers afterSteps stepRule bookOf registerOf opened opening fresh openingRefusal untrusted tooMany stray choose both either between conj all any lowest every tally weigh unit digit fill setOf withMember withStage first enough trustedIn madeIn parentIn epochIn matchesIn namedIn saysIn climb chainBy isVote stage signed signerSet notarised chain chainNotarised longest countsFit blockFits messageFits stateFits fit consecutive finalises leaderTable blank freshBook withBlock withNamed sentStage withSent withMoved withActed withState withNextEpoch ruleOf refusal judged bookRule
+unfolding finalChain chainOf Trusted Notarised moment start start-steps fork fork-steps answers afterSteps stepRule bookOf registerOf opened opening fresh openingRefusal untrusted tooMany stray choose both either between conj all any lowest every tally weigh unit digit fill setOf withMember withStage first enough trustedIn madeIn parentIn epochIn matchesIn namedIn saysIn climb chainBy isVote stage signed signerSet notarised signersOn chain chainNotarised longest countsFit blockFits messageFits stateFits fit consecutive finalises leaderTable blank freshBook withBlock withNamed sentStage withSent withMoved withActed withState withNextEpoch ruleOf refusal judged bookRule
 runs-show = (
   record { refusals = refl; seen = record { finalist = refl; is-final = refl; viewer = refl; is-notarised = refl; is-chain = refl } },
-  record { refusals = refl; seen = record { finalist = refl; is-final = refl; viewer = refl; is-notarised = refl; is-chain = refl }; later = refl; other = refl; forked = refl; shorter = refl; signed-there = refl; signed-elsewhere = refl },
+  record { refusals = refl; seen = record { finalist = refl; is-final = refl; viewer = refl; is-notarised = refl; is-chain = refl }; later = refl; other = refl; forked = refl; shorter = refl; signed-there = refl; signed-elsewhere = refl; told-there = refl; told-elsewhere = refl; told-genesis = refl; told-nobody = refl },
 )
 
 pub start-shows : Started

@@ -2,7 +2,7 @@
 ghost use mathlib.Core.Path.{_≡_};
 ghost use Rattle.words.specs.Sums.{tally};
 ghost use Rattle.words.specs.Digits.{inSet};
-ghost use Rattle.quorum.specs.Enough.{enough};
+ghost use Rattle.quorum.specs.Enough.{countOf};
 ghost use Rattle.quorum.specs.Opening.{untrusted, stray, openingRefusal};
 
 // The numbers of refusal of an opening.
@@ -14,11 +14,21 @@ pub const STRAY_LEADER: u8 = 3;
 
 pub const THIRD: u8 = 4;
 
-// The members of a set are enough signers of n offices: three times their number is at least twice n.
-pub fn is_enough(set: u32, n: u8) -> bool
-    ensures { λ r. ⌜ r ≡ enough (tally n (inSet set)) n ⌝ }
+// The count of a block's signers: whether they are enough, and how many they are in either case.
+pub struct Count {
+    pub enough: bool,
+    pub signers: u8,
+}
+
+// Counts the members of a set of signers, of n offices. They are enough where three times their number is at least twice n.
+pub fn count_signers(set: u32, n: u8) -> Count
+    ensures { λ r. ⌜ r ≡ countOf (tally n (inSet set)) n ⌝ }
 {
-    2 * (n as u32) <= 3 * words::members(set, n)
+    let signers = words::members(set, n);
+    Count {
+        enough: 2 * (n as u32) <= 3 * signers,
+        signers: signers as u8,
+    }
 }
 
 // How many of the n offices have the trust bit 0.

@@ -1,5 +1,5 @@
 -- A register grows: blocks and messages are only added, and what is in a view stays there. What was notarised stays notarised.
-use Prim.Native.Nat.{ℕ, _*_, _<_, _≤_}
+use Prim.Native.Nat.{ℕ, _<_, _≤_}
 use mathlib.Core.Path.{_≡_, refl, sym, ap, ap₂, _∙_, subst⁻¹}
 use mathlib.Core.Bool.{Bool, true}
 use mathlib.Core.List.{List}
@@ -8,16 +8,16 @@ use native.Mathlib.Omega.{arith}
 use borrow.Author.Tests.{le-leb}
 use lib.Dec.{eqb, ltb}
 use lib.ListN.{length}
-use Rattle.quorum.specs.Enough.{enough}
 use Rattle.words.specs.Tests.{choose, both, every, member}
-use Rattle.words.specs.Sums.{tally, unit, weigh}
+use Rattle.words.specs.Sums.{tally, unit}
 use Rattle.words.proofs.Tests.{both-left, both-right, both-make, either-cases, either-left, either-right, any-at, any-make, every-same}
 use Rattle.words.proofs.Sums.{weigh-more}
 use Rattle.tables.specs.Blocks.{trustedIn, madeIn, parentIn, epochIn}
 use Rattle.tables.specs.Messages.{saysIn}
 use Rattle.register.specs.Types.{Header, Book}
+use Rattle.register.specs.Limits.{mostOffices}
 use Rattle.register.specs.Tables.{Content, trusted, made, headerOf, parentOf, epochOf, contentOf}
-use Rattle.register.specs.Views.{inView, says, signed, notarised}
+use Rattle.register.specs.Views.{inView, says, signed, signs, signers, notarised}
 use Rattle.register.specs.Chains.{chain, chainLength, chainNotarised}
 use Rattle.register.proofs.Chains.{parent-le, on-chain-le, chain-kept}
 use Rattle.quorum.proofs.Enough.{enough-make, enough-least}
@@ -98,18 +98,18 @@ module _ {r s : Book} (g : Grows r s) where
       any-make _ (s .count) (f .0) (omega (arith, f .1, g .count))
       (both-make _ _ (g .views q (f .0) (both-left _ _ (f .2))) (says-kept h b (f .0) (f .1) ∙ both-right _ _ (f .2)))
 
+  -- and an office that has signed a block there has
+  signs-kept : (q b h : ℕ) → signs r q b h ≡ true → signs s q b h ≡ true
+  signs-kept q b h t =
+      both-make _ _ (ap (λ (n : ℕ). ltb h n) (g .n) ∙ both-left _ _ t) (signed-kept q h b (both-right _ _ t))
+
   -- a block that is notarised in a view stays so
   notarised-kept : (q b : ℕ) → notarised r q b ≡ true → notarised s q b ≡ true
   unfolding notarised tally
   notarised-kept q b t =
-      let was : ℕ = weigh unit (r .n) (λ h. signed r q h b) in
-      let is : ℕ = weigh unit (r .n) (λ h. signed s q h b) in
-      let more : was ≤ is = weigh-more unit (r .n) _ _ (λ h l. signed-kept q h b) in
+      let more : signers r q b ≤ signers s q b = weigh-more unit mostOffices _ _ (λ h l. signs-kept q b h) in
       ⊎-elim (λ z. either-left _ _ z)
-      (λ e.
-      let still : 2 * r .n ≤ 3 * is = omega (arith, enough-least was (r .n) e) in
-      either-right _ _
-      (subst⁻¹ (λ (n : ℕ). enough (weigh unit n (λ h. signed s q h b)) n ≡ true) (g .n) (enough-make is (r .n) still)))
+      (λ e. either-right _ _ (enough-make _ (s .n) (omega (arith, g .n, more, enough-least _ (r .n) e))))
       (either-cases _ _ t)
 
   -- a chain that is notarised in a view stays so

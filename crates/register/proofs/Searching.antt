@@ -11,7 +11,7 @@ use lib.ListN.{getD}
 use Rattle.quorum.specs.Enough.{enough}
 use Rattle.words.specs.Tests.{choose, both, either, every}
 use Rattle.words.proofs.Tests.{any-same, every-both}
-use Rattle.words.proofs.Sums.{tally-ext}
+use Rattle.words.proofs.Sums.{tally-ext, tally-below}
 use Rattle.tables.specs.Blocks.{parentIn}
 use Rattle.tables.specs.Chains.{chainBy}
 use Rattle.tables.specs.Searches.{signedIn, viewIn, enoughIn, certifiedBy, certifiedIn, certifiedAbove, longerBy, longestBy, longestIn}
@@ -20,6 +20,7 @@ use Rattle.tables.proofs.Chains.{parent-in-lt}
 use Rattle.tables.proofs.Views.{view-enough}
 use Rattle.tables.proofs.Searching.{certified-same, certified-above}
 use Rattle.register.specs.Types.{Book}
+use Rattle.register.specs.Limits.{mostOffices}
 use Rattle.register.specs.Tables.{trusted, parentOf, epochOf}
 use Rattle.register.specs.Views.{stage, inView, says, signed, signers, notarised}
 use Rattle.register.specs.Chains.{chain, chainLength, chainNotarised, longer, longest}
@@ -62,7 +63,8 @@ module _ (r : Book) (few : r .count ≤ 1024) (offices : r .n ≤ 32) (q : ℕ) 
       rw (ne-eqb b 0 (omega arith), all-offices)
       (view-enough (r .places) (r .signers) (r .about) q b (min (r .count) 1024) (r .n) offices l
       ∙ ap (λ (k : ℕ). enough k (r .n))
-      (tally-ext (r .n) _ (λ s. signed r q s b) (λ s h'. sym (signed-in r few q s b h))))
+      (tally-ext (r .n) _ (λ s. signed r q s b) (λ s h'. sym (signed-in r few q s b h))
+      ∙ sym (tally-below (r .n) mostOffices (λ s. signed r q s b) offices)))
 
   -- a chain is notarised there where each of its blocks is certified
   chain-notarised-by : (b : ℕ) → b < 256 → chainNotarised r q b ≡ every (certifiedOf r q) (chainBy (parentIn (r .parents) (r .last .0)) b)

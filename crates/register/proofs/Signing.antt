@@ -4,27 +4,59 @@ use mathlib.Core.Path.{_≡_, refl, sym, _∙_}
 use mathlib.Core.Bool.{true, false}
 use native.Mathlib.Omega.{arith}
 use native.Mathlib.Decide.{decLt}
-use borrow.Author.Tests.{ne-eqb, lt-ltb}
+use borrow.Author.Tests.{ne-eqb, lt-ltb, le-ltb}
 use lib.Dec.{ltb}
 use lib.ListN.{getD}
 use Rattle.words.specs.Tests.{choose, both, either}
+use Rattle.words.specs.Sums.{tally}
 use Rattle.words.specs.Digits.{digit, fill, inSet, setBits}
 use Rattle.words.proofs.Tests.{any-fails, both-none}
 use Rattle.words.proofs.Sums.{tally-ext, tally-past}
 use Rattle.words.proofs.Digits.{in-set, in-set-past, set-below, set-ext, set-none}
+use Rattle.quorum.specs.declared.Count.{Count}
+use Rattle.quorum.specs.Enough.{countOf}
 use Rattle.tables.specs.Messages.{saysIn}
 use Rattle.tables.specs.Searches.{signersIn, viewIn}
 use Rattle.tables.proofs.Views.{view-entry}
 use Rattle.register.specs.Types.{Book}
 use Rattle.register.specs.Books.{bookOf}
 use Rattle.register.specs.Tables.{trusted, signerOf, aboutOf}
-use Rattle.register.specs.Views.{stage, says, signed, signers, signerSet, notarised}
+use Rattle.register.specs.Views.{stage, says, signed, signs, signers, signerSet, notarised, signersOn, notarisedTest}
 use Rattle.register.specs.Fitness.{fit}
 use Rattle.register.specs.Promises.{SignersAreBits, GenesisUnsigned}
 use Rattle.register.proofs.Ranges.{fit-counts, fit-messages}
 use Rattle.register.proofs.Searching.{signed-columns}
 
 module _ (r : Book) (q : ℕ) where
+  -- in every register as many bits are set as there are signers
+  bits-count : (b : ℕ) → setBits (signerSet r q b) ≡ signers r q b
+  unfolding signerSet
+  bits-count b = tally-ext 32 _ (signs r q b) (λ s l. in-set (signs r q b) s l)
+
+  -- and none of them from n up
+  no-bit : (b s : ℕ) → r .n ≤ s → inSet (signerSet r q b) s ≡ false
+  unfolding signerSet both
+  no-bit b s past =
+      elim (decLt s 32) as (λ _. inSet (signerSet r q b) s ≡ false) [
+        | no long ↦ in-set-past (signs r q b) s (omega arith)
+        | yes within ↦ in-set (signs r q b) s within ∙ rw (le-ltb s (r .n) past)
+      ]
+
+  -- so those below n are the signers, however many offices the register says
+  members-count : (b : ℕ) → tally (r .n) (inSet (signerSet r q b)) ≡ signers r q b
+  unfolding signerSet
+  members-count b =
+      elim (decLt 32 (r .n)) as (λ _. tally (r .n) (inSet (signerSet r q b)) ≡ signers r q b) [
+        | no few ↦ sym (tally-past (r .n) 32 _ (omega arith) (λ s past. no-bit b s past)) ∙ bits-count b
+        | yes many ↦ tally-past 32 (r .n) _ (omega arith) (λ s past. in-set-past (signs r q b) s past) ∙ bits-count b
+      ]
+
+  -- and what their count tells of a block other than genesis is the notarised test
+  pub test-by-count : (b set : ℕ) (count : Count) → (b ≡ 0 → ⊥) → set ≡ signerSet r q b → count ≡ countOf (tally (r .n) (inSet set)) (r .n)
+      → record { holds = count .enough; signers = count .signers } ≡ notarisedTest r q b
+  unfolding notarised signersOn either choose
+  test-by-count b set count other same told = rw (told, same, members-count b, ne-eqb b 0 other)
+
   -- what no message says, no view has a signature for
   unsaid : (s b : ℕ) → ((m : ℕ) → m < r .count → says r s b m ≡ false) → signed r q s b ≡ false
   unfolding signed
@@ -59,12 +91,6 @@ module _ (r : Book) (q : ℕ) where
         ])
       ]
 
-  -- and as many are set as there are signers
-  bits-count : fit r ≡ true → (b : ℕ) → setBits (signerSet r q b) ≡ signers r q b
-  bits-count h b =
-      tally-ext 32 _ (λ s. signed r q s b) (λ s l. bits-tell h b s)
-      ∙ tally-past (r .n) 32 (λ s. signed r q s b) (fit-counts r h .offices) (λ s past. no-stranger h s b past)
-
   -- the set that is found in no view
   pub set-unseen : (b : ℕ) → trusted r q ≡ false → 0 ≡ signerSet r q b
   unfolding signerSet
@@ -82,9 +108,9 @@ module _ (r : Book) (q : ℕ) where
 pub signers-are-bits : SignersAreBits
 unfolding SignersAreBits
 signers-are-bits r h q b =
-    record { bits = bits-tell (bookOf r) q h b; count = bits-count (bookOf r) q h b }
+    record { bits = bits-tell (bookOf r) q h b; count = bits-count (bookOf r) q b }
 
 -- there genesis has no signers
 pub genesis-unsigned : GenesisUnsigned
-unfolding GenesisUnsigned signerSet notarised either
+unfolding GenesisUnsigned signerSet notarised signersOn either choose bookOf
 genesis-unsigned r h q = (set-none _ (λ s. rw (no-genesis (bookOf r) q h s, both-none)), refl)

@@ -8,7 +8,7 @@ use Rattle.words.specs.Digits.{inSet, setBits}
 use Rattle.register.specs.Types.{Step, Register, Book}
 use Rattle.register.specs.Limits.{blockEntries, mostMessages}
 use Rattle.register.specs.Books.{bookOf}
-use Rattle.register.specs.Views.{signed, signers, signerSet, notarised}
+use Rattle.register.specs.Views.{signed, signers, signerSet, notarisedTest}
 use Rattle.register.specs.Fitness.{fit}
 use Rattle.register.specs.Opening.{closed, opening}
 use Rattle.register.specs.Steps.{stepRule}
@@ -60,10 +60,11 @@ pub record SignerBits (r : Book) (q b : ℕ) : Type 0 where
 unfoldable pub SignersAreBits : Type 0
 SignersAreBits = (r : Register) → fit (bookOf r) ≡ true → (q b : ℕ) → SignerBits (bookOf r) q b
 
--- There genesis has no signers; it is notarised all the same.
+-- There nobody signed genesis; it is notarised all the same, and counts as signed by all n offices.
 unfoldable pub GenesisUnsigned : Type 0
 GenesisUnsigned =
-    (r : Register) → fit (bookOf r) ≡ true → (q : ℕ) → (signerSet (bookOf r) q 0 ≡ 0) × (notarised (bookOf r) q 0 ≡ true)
+    (r : Register) → fit (bookOf r) ≡ true → (q : ℕ)
+    → (signerSet (bookOf r) q 0 ≡ 0) × (notarisedTest (bookOf r) q 0 ≡ record { holds = true; signers = r .n })
 
 -- what an opening fixes: the number of offices, the trusted ones, and the schedule
 pub record Council : Type 0 where

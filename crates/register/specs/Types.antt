@@ -11,6 +11,7 @@ pub use Rattle.register.specs.declared.table.Register.{Register}
 pub use Rattle.register.specs.declared.table.Opened.{Opened}
 pub use Rattle.register.specs.declared.table.Stepped.{Stepped}
 pub use Rattle.register.specs.declared.table.Ran.{Ran}
+pub use Rattle.register.specs.declared.table.Notarised.{Notarised}
 pub use Rattle.register.specs.declared.book.Book.{Book}
 pub use Rattle.register.specs.declared.book.Scalars.{Scalars}
 pub use Rattle.register.specs.declared.change.Clock.{Clock}

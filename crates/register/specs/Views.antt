@@ -8,7 +8,8 @@ use Rattle.words.specs.Sums.{tally}
 use Rattle.words.specs.Digits.{digit, setOf}
 use Rattle.quorum.specs.Enough.{enough}
 use Rattle.tables.specs.Messages.{absent, transit, inbox, view, saysIn}
-use Rattle.register.specs.Types.{Book}
+use Rattle.register.specs.Types.{Notarised, Book}
+use Rattle.register.specs.Limits.{mostOffices}
 use Rattle.register.specs.Tables.{trusted}
 
 -- the stage of message m for office q. An untrusted office keeps nothing, and what was not sent is nowhere.
@@ -32,14 +33,26 @@ says r signer b m = saysIn (r .signers) (r .about) signer b m
 unfoldable pub signed : Book → (q : ℕ) → (signer : ℕ) → (b : ℕ) → Bool
 signed r q signer b = any (r .count) (λ m. both (inView r q m) (says r signer b m))
 
+-- the signer is an office, and its signature on block b is in office q's view
+abbrev pub signs : Book → (q b : ℕ) → (signer : ℕ) → Bool
+signs r q b signer = both (ltb signer (r .n)) (signed r q signer b)
+
 -- how many different offices' signatures on block b are in office q's view
 abbrev pub signers : Book → ℕ → ℕ → ℕ
-signers r q b = tally (r .n) (λ signer. signed r q signer b)
+signers r q b = tally mostOffices (signs r q b)
 
 -- these offices as a word of 32 bits: bit s is that of office s, and from n up no bit is set
 unfoldable pub signerSet : Book → ℕ → ℕ → ℕ
-signerSet r q b = setOf (λ signer. both (ltb signer (r .n)) (signed r q signer b))
+signerSet r q b = setOf (signs r q b)
 
 -- block b is notarised in office q's view; genesis always is
 unfoldable pub notarised : Book → ℕ → ℕ → Bool
 notarised r q b = either (eqb b 0) (enough (signers r q b) (r .n))
+
+-- how many signed block b, as the notarised test tells it; of genesis, all n
+unfoldable pub signersOn : Book → ℕ → ℕ → ℕ
+signersOn r q b = choose (eqb b 0) (r .n) (signers r q b)
+
+-- the notarised test of block b in office q's view: whether it is notarised there, and how many signed it, whether or not they are enough
+abbrev pub notarisedTest : Book → ℕ → ℕ → Notarised
+notarisedTest r q b = record { holds = notarised r q b; signers = signersOn r q b }

@@ -21,6 +21,7 @@ pub use sorts::Message;
 pub use sorts::Office;
 pub use step::Step;
 pub use table::Header;
+pub use table::Notarised;
 pub use table::OfficeState;
 pub use table::Opened;
 pub use table::Ran;

@@ -4,7 +4,7 @@ ghost use mathlib.Core.List.{map};
 ghost use Rattle.tables.specs.Searches.{viewIn};
 ghost use Rattle.register.specs.Books.{block, officeNumber, blockNumber, bookOf};
 ghost use Rattle.register.specs.Tables.{trusted, finalFor};
-ghost use Rattle.register.specs.Views.{signerSet};
+ghost use Rattle.register.specs.Views.{signerSet, notarisedTest};
 ghost use Rattle.register.specs.Chains.{lengthOf};
 use crate::book::about_numbers;
 use crate::book::parent_numbers;
@@ -14,6 +14,7 @@ use crate::limits::MESSAGES;
 use crate::limits::OFFICES;
 use crate::sorts::Block;
 use crate::sorts::Office;
+use crate::table::Notarised;
 use crate::table::Register;
 use tables::View;
 
@@ -87,5 +88,23 @@ impl Register {
         let about = self.about;
         let view = view_in(places, signers, about, self.count, office);
         words::below(view[b.0 as usize], self.n)
+    }
+
+    // The notarised test of a block in an office's view: whether it is notarised there, and how many different offices signed it, whether or not
+    // they are enough. Genesis always is, and counts as signed by all n.
+    pub fn notarised(self, office: Office, b: Block) -> Notarised
+        ensures { λ r. ⌜ r ≡ notarisedTest (bookOf self) (office .0) (b .0) ⌝ }
+    {
+        if b.0 == 0 {
+            return Notarised {
+                holds: true,
+                signers: self.n,
+            };
+        }
+        let count = quorum::count_signers(self.signer_set(office, b), self.n);
+        Notarised {
+            holds: count.enough,
+            signers: count.signers,
+        }
     }
 }

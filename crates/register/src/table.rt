@@ -70,3 +70,9 @@ pub struct Ran {
     pub refusals: [u8; BATCH],
     pub values: [u16; BATCH],
 }
+
+// What the notarised test tells of a block in an office's view: whether it is notarised there, and how many different offices signed it.
+pub struct Notarised {
+    pub holds: bool,
+    pub signers: u8,
+}

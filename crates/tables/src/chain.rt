@@ -78,7 +78,7 @@ fn is_certified<'a>(
     if set == known {
         return true;
     }
-    quorum::is_enough(set, n)
+    quorum::count_signers(set, n).enough
 }
 
 // The same of a block that a search comes to off the chain that is to beat. On full tables most of these have no signer, and nobody is not enough

@@ -1,9 +1,10 @@
-// Runs the worked case of the rules through the step methods and prints its report, and who signed its blocks in whose view; then tries registers
-// that are unfit in one way each, and an opening with trust bits from n up.
+// Runs the worked case of the rules through the step methods and prints its report, and who and how many signed its blocks in whose view; then
+// tries registers that are unfit in one way each, and an opening with trust bits from n up.
 use libc::STDOUT_FILENO;
 use register::Block;
 use register::Epoch;
 use register::Message;
+use register::Notarised;
 use register::Office;
 use register::OfficeState;
 use register::Register;
@@ -28,7 +29,7 @@ fn line(place: u64, stepped: Stepped) -> Register {
     stepped.register
 }
 
-// Prints an office's line: its number, its final block and the length of that block's chain.
+// Prints an office's line: its number, its final block, the length of that block's chain, and how many signed it in the office's view.
 fn office_line(register: Register, q: u8) {
     let last = register.final_block(Office(q));
     print(b"office ");
@@ -37,6 +38,8 @@ fn office_line(register: Register, q: u8) {
     number(last.0 as u64);
     print(b" ");
     number(register.chain_length(last) as u64);
+    print(b" ");
+    number(register.notarised(Office(q), last).signers as u64);
     print(b"\n");
 }
 
@@ -68,7 +71,18 @@ fn third_epoch(register: Register) -> Register {
     line(19, r.finalise(Office(1), Block(3)))
 }
 
-// Prints the word of the signers of a block in an office's view.
+// Prints the end of a line: what the notarised test tells.
+fn told(notarised: Notarised) {
+    print(b" ");
+    number(notarised.signers as u64);
+    if notarised.holds {
+        print(b" notarised\n");
+    } else {
+        print(b" too few\n");
+    }
+}
+
+// Prints the word of the signers of a block in an office's view, how many they are as the notarised test tells it, and its yes or no.
 fn signers_line(register: Register, q: u8, b: u8) {
     print(b"signers ");
     number(q as u64);
@@ -76,11 +90,11 @@ fn signers_line(register: Register, q: u8, b: u8) {
     number(b as u64);
     print(b" ");
     number(register.signer_set(Office(q), Block(b)) as u64);
-    print(b"\n");
+    told(register.notarised(Office(q), Block(b)));
 }
 
 // Whoever signed block 3, by the proposal of office 0 and the vote of office 1: office 0 has its own proposal, office 1 both. Of genesis, of a
-// block past the last, and in the view of an office that has nothing or is none, there is nobody.
+// block past the last, and in the view of an office that has nothing or is none, there is nobody; yet genesis counts as signed by all.
 fn signers_of_the_case(register: Register) {
     signers_line(register, 0, 3);
     signers_line(register, 1, 3);
@@ -91,7 +105,8 @@ fn signers_of_the_case(register: Register) {
 }
 
 // A register that is not fit: message 0 is about block 1, in the view of office 0, and signed by an office past the last one; then of 32 offices
-// the last has signed, and the count says more messages than there are; then office 0 is no longer trusted.
+// the last has signed, and the count says more messages than there are; then office 0 is no longer trusted. Then there is one office, which signed,
+// and then there are more offices than there can be.
 fn signers_by_hand(register: Register) {
     let mut r = register;
     let one = Block(1);
@@ -106,6 +121,14 @@ fn signers_by_hand(register: Register) {
     signers_line(r, 0, 1);
     r.trust = 6;
     signers_line(r, 0, 1);
+    r.n = 1;
+    r.trust = 1;
+    let only = Office(0);
+    r.signers[0] = only;
+    signers_line(r, 0, 1);
+    r.n = 255;
+    signers_line(r, 0, 1);
+    signers_line(r, 0, 0);
 }
 
 // Prints what an advance of that register is refused with.

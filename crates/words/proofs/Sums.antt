@@ -4,7 +4,9 @@ use mathlib.Core.Path.{_≡_, refl, _∙_}
 use mathlib.Core.Bool.{Bool, true, false, not}
 use native.Mathlib.Omega.{arith}
 use native.Mathlib.Decide.{le-ind}
-use Rattle.words.specs.Tests.{choose}
+use borrow.Author.Tests.{lt-ltb, le-ltb}
+use lib.Dec.{ltb}
+use Rattle.words.specs.Tests.{choose, both}
 use Rattle.words.specs.Sums.{weigh, unit, tally}
 use Rattle.words.proofs.Tests.{clash}
 
@@ -66,6 +68,12 @@ pub tally-past : (n m : ℕ) (p : ℕ → Bool) → n ≤ m → ((k : ℕ) → n
 unfolding tally weigh choose
 tally-past n m p more none =
     le-ind (λ (k : ℕ). weigh unit k p ≡ weigh unit n p) refl (λ k l e. rw (none k l) (omega arith)) m more
+
+-- those below n, where the test asks for that too
+pub tally-below : (n m : ℕ) (p : ℕ → Bool) → n ≤ m → tally m (λ k. both (ltb k n) (p k)) ≡ tally n p
+unfolding both
+tally-below n m p more =
+    tally-past n m _ more (λ k l. rw (le-ltb k n l)) ∙ tally-ext n _ p (λ k l. rw (lt-ltb k n l))
 
 -- where none passes a test, there are none
 pub tally-none : (n : ℕ) (p : ℕ → Bool) → ((k : ℕ) → p k ≡ false) → tally n p ≡ 0

@@ -1,9 +1,10 @@
 -- `tables::chain::is_certified`: the two tests are those of the definition; the known set is enough.
 use borrow.Author.Needs.{needs}
-use mathlib.Core.Path.{_≡_}
+use mathlib.Core.Path.{_≡_, ap}
 use borrow.Author.Tests.{le-ltb, lt-ltb}
 use lib.Dec.{ltb}
 use Rattle.words.specs.Tests.{both}
+use Rattle.quorum.specs.declared.Count.{Count}
 use Rattle.tables.specs.Blocks.{parentIn, epochIn}
 use Rattle.tables.specs.Searches.{certifiedBy, enoughIn}
 use Rattle.tables.proofs.chain.is_certified.Statement.{statement}
@@ -30,4 +31,4 @@ is-certified-spec =
     (tie.spec (λ c κs. search needs) (λ c κs. search needs) (λ c κs. search needs)
     (λ c. rw (tests (c .before), le-ltb _ _ (c .if1 .taken)))
     returns-2 (λ c κs. search needs)
-    (λ c. rw (tests (c .before .before .before), lt-ltb _ _ (c .before .before .if1 .left)) (c .is-enough .ensures)))
+    (λ c. rw (tests (c .before .before .before), lt-ltb _ _ (c .before .before .if1 .left)) (ap (λ (k : Count). k .enough) (c .count-signers .ensures))))
