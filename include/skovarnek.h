@@ -16,8 +16,8 @@ extern "C" {
 /* The most bytes that a log may have; a longer one gives the report "log 30". */
 #define SKOVARNEK_LONGEST_LOG 65536
 
-/* No report is longer: at most 131,072 lines of steps of 17 bytes each, and 32 lines of offices of 18. */
-#define SKOVARNEK_LONGEST_REPORT 2228800
+/* No report is longer: at most 131,072 lines of steps of 17 bytes each, and 32 lines of offices of 22. */
+#define SKOVARNEK_LONGEST_REPORT 2228928
 
 /* Checks the log and writes the report into the buffer, from its first byte on. Returns the report's length; later bytes of the buffer are
  * untouched, and no zero byte is put behind the report. If the report does not fit, returns 0, and the whole buffer is zero; no report is

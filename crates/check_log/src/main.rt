@@ -12,7 +12,7 @@ use report::check::check;
 const LOG_ROOM: usize = 65537;
 
 // As many bytes as the longest report can have.
-const REPORT_ROOM: usize = 2228800;
+const REPORT_ROOM: usize = 2228928;
 
 // Room for a log, all zero.
 fn log_buffer() -> [u8; LOG_ROOM]
@@ -23,7 +23,7 @@ fn log_buffer() -> [u8; LOG_ROOM]
 
 // Room for a report, all zero.
 fn report_buffer() -> [u8; REPORT_ROOM]
-    ensures { λ r. ⌜ r ≡ replicate 2228800 0 ⌝ }
+    ensures { λ r. ⌜ r ≡ replicate 2228928 0 ⌝ }
 {
     [0; REPORT_ROOM]
 }
@@ -37,7 +37,7 @@ fn print(report: &[u8], size: usize)
 
 // Checks the first bytes of a buffer that has room for more than a log may have. The report fits, and it is what stands in front in its buffer then.
 fn check_first(log: &[u8], size: usize, report: &mut [u8]) -> usize
-    requires { ⌜ (size ≤ length (now log)) × (65536 < length (now log)) × (2228800 ≤ length (now report)) ⌝ }
+    requires { ⌜ (size ≤ length (now log)) × (65536 < length (now log)) × (2228928 ≤ length (now report)) ⌝ }
     ensures { λ r. ⌜ (r ≡ givenLength (take size (lent log)) (lent report))
         × (given report ≡ bufferAfter (take size (lent log)) (lent report))
         × (take r (given report) ≡ reportOf (take size (lent log)))

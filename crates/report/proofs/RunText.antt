@@ -13,8 +13,10 @@ use Rattle.register.specs.declared.step.Step.{Step}
 use Rattle.register.specs.declared.table.Register.{Register}
 use Rattle.register.specs.declared.table.Stepped.{Stepped}
 use Rattle.register.specs.declared.table.Ran.{Ran}
+use Rattle.register.specs.declared.table.Notarised.{Notarised}
 use Rattle.register.specs.Books.{block, bookOf}
 use Rattle.register.specs.Tables.{trusted, finalOf, finalFor}
+use Rattle.register.specs.Views.{notarisedTest}
 use Rattle.register.specs.Chains.{lengthOf}
 use Rattle.register.specs.Runs.{afterSteps, answers, padded, ran}
 use Rattle.register.proofs.Running.{after-append, answers-append, length-answers}
@@ -71,12 +73,13 @@ ran-lines r place ss count long =
     ∙ ap (stepLines place) (take-all count ss (omega arith))
 
 -- the line of a trusted office, told from what the register's calls give
-pub office-some : (r : Register) (q size : ℕ) (last : Block) → trusted (bookOf r) q ≡ true → last ≡ block (finalFor (bookOf r) q)
-    → size ≡ lengthOf (bookOf r) (last .0) → officeText r q ≡ officeLine q (last .0) size
+pub office-some : (r : Register) (q size : ℕ) (last : Block) (told : Notarised) → trusted (bookOf r) q ≡ true
+    → last ≡ block (finalFor (bookOf r) q) → size ≡ lengthOf (bookOf r) (last .0) → told ≡ notarisedTest (bookOf r) q (last .0)
+    → officeText r q ≡ officeLine q (last .0) size (told .signers)
 unfolding officeText choose
-office-some r q size last h e long =
+office-some r q size last told h e long test =
     let is : last ≡ block (finalOf (bookOf r) q) = e ∙ rw h in
-    rw (long, is, h)
+    rw (test, long, is, h)
 
 -- how far a run has come: with the lines of the rest of the steps, from this register on, the whole text is written
 pub record SoFar (before report whole : List ℕ) (next place : ℕ) (r : Register) (rest : List Step) : Type 0 where

@@ -10,7 +10,7 @@ use lib.ListN.{length, drop, set, length-append}
 use lib.Seq.{sets, sets-eq, length-sets, set-comm}
 use Rattle.words.specs.Tests.{choose}
 use Rattle.packed_log.proofs.BitRows.{sets-sets}
-use Rattle.report.specs.Text.{TextWritten, digitsBy, decimal, numberThen, threeNumbers, stepLine, officeLine}
+use Rattle.report.specs.Text.{TextWritten, digitsBy, decimal, numberThen, numbers, stepLine, officeLine}
 
 -- a text, and then another behind it, is the joined text
 pub then : {l m k : List ℕ} {p q r : ℕ} {t u : List ℕ} → TextWritten l p t q m → TextWritten m q u r k → TextWritten l p (t ++ u) r k
@@ -86,22 +86,33 @@ decimal-long (suc k) n fits h =
     let some : 0 < 10 ^ k = one-le-pow k 10 (omega arith) in
     rw (decimal-longer n fits (omega arith)) (omega (arith, decimal-long k (n / 10) (omega arith) (omega arith)))
 
+-- a number on a line that is below 10 ^ (k + 1), and the byte behind it, are at most k + 2 bytes long
+number-size : (k n byte : ℕ) → n < 2 ^ 64 → n < 10 ^ suc k → length (numberThen n byte) ≤ k + 2
+unfolding numberThen
+number-size k n byte fits h = rw length-append (omega (arith, decimal-short k n fits h))
+
+-- one number more on a line
+numbers-more : (k m first second : ℕ) (more : List ℕ) → first < 2 ^ 64 → first < 10 ^ suc k → length (numbers second more) ≤ m
+    → length (numbers first (second ∷ more)) ≤ k + 2 + m
+unfolding numbers
+numbers-more k m first second more fits h rest = rw length-append (omega (arith, number-size k first 32 fits h))
+
 -- three numbers on a line, which are below powers of ten: how long they are at most
 three-size : (i j k a b c : ℕ) → a + b + c < 2 ^ 64 → a < 10 ^ suc i → b < 10 ^ suc j → c < 10 ^ suc k
-    → length (threeNumbers a b c) ≤ i + j + k + 6
-unfolding threeNumbers numberThen
+    → length (numbers a (b ∷ c ∷ [])) ≤ i + 2 + (j + 2 + (k + 2))
+unfolding numbers
 three-size i j k a b c fit x y z =
-    let long : length (threeNumbers a b c) ≡ length (decimal a) + length (decimal b) + length (decimal c) + 3 = simp length-append (omega arith) in
-    omega (arith, decimal-short i a (omega arith) x, decimal-short j b (omega arith) y, decimal-short k c (omega arith) z)
+    numbers-more i _ a b (c ∷ []) (omega arith) x (numbers-more j _ b c [] (omega arith) y (number-size k c 10 (omega arith) z))
 
 -- the line of a step is at most 17 bytes long
 pub step-line-size : (place refusal value : ℕ) → place ≤ 131072 → refusal < 256 → value < 65536 → length (stepLine place refusal value) ≤ 17
 step-line-size place refusal value p r v =
     three-size 5 2 4 place refusal value (omega arith) (omega arith) (omega arith) (omega arith)
 
--- the line of an office is at most 18 bytes long
-pub office-line-size : (office final size : ℕ) → office < 32 → final < 256 → size < 256 → length (officeLine office final size) ≤ 18
+-- the line of an office is at most 22 bytes long
+pub office-line-size : (office final size signers : ℕ) → office < 32 → final < 256 → size < 256 → signers < 256
+    → length (officeLine office final size signers) ≤ 22
 unfolding officeLine
-office-line-size office final size o f s =
-    let long : length (officeLine office final size) ≡ 7 + length (threeNumbers office final size) = simp length-append in
-    omega (arith, three-size 1 2 2 office final size (omega arith) (omega arith) (omega arith) (omega arith))
+office-line-size office final size signers o f s k =
+    let rest = three-size 2 2 2 final size signers (omega arith) (omega arith) (omega arith) (omega arith) in
+    rw length-append (omega (arith, numbers-more 1 _ office final (size ∷ signers ∷ []) (omega arith) (omega arith) rest))

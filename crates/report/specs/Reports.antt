@@ -10,6 +10,7 @@ use Rattle.register.specs.declared.table.Stepped.{Stepped}
 use Rattle.register.specs.declared.book.Book.{Book}
 use Rattle.register.specs.Books.{bookOf}
 use Rattle.register.specs.Tables.{trusted, finalOf}
+use Rattle.register.specs.Views.{signersOn}
 use Rattle.register.specs.Chains.{lengthOf}
 use Rattle.register.specs.Runs.{afterSteps, answers}
 use Rattle.packed_log.specs.Openings.{openingIn}
@@ -21,11 +22,13 @@ unfoldable pub stepLines : (place : ℕ) → List Stepped → List ℕ
 stepLines place [] = []
 stepLines place (s ∷ ss) = stepLine place (s .refusal) (s .value) ++ stepLines (place + 1) ss
 
--- the line of a trusted office: its number, its final block, the length of that block's chain; nothing for any other
+-- the line of a trusted office: its number, its final block, the length of that block's chain, how many signed it in the office's view; nothing for any
+-- other
 unfoldable pub officeText : Register → (q : ℕ) → List ℕ
 officeText r q =
     let book : Book = bookOf r in
-    choose (trusted book q) (officeLine q (finalOf book q) (lengthOf book (finalOf book q))) []
+    let final : ℕ = finalOf book q in
+    choose (trusted book q) (officeLine q final (lengthOf book final) (signersOn book q final)) []
 
 -- a line for each trusted office with a number below q, ascending
 unfoldable pub officeLines : Register → (q : ℕ) → List ℕ

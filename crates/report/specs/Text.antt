@@ -20,21 +20,22 @@ decimal n = digitsBy 20 n
 unfoldable pub numberThen : (n byte : ℕ) → List ℕ
 numberThen n byte = decimal n ++ (byte ∷ [])
 
--- three numbers on a line: a space behind each of the first two, and the line's end
-unfoldable pub threeNumbers : (first second third : ℕ) → List ℕ
-threeNumbers first second third = numberThen first 32 ++ numberThen second 32 ++ numberThen third 10
+-- numbers on a line, one or more: a space behind each but the last, and behind that the line's end
+unfoldable pub numbers : (first : ℕ) → (more : List ℕ) → List ℕ
+numbers first [] = numberThen first 10
+numbers first (second ∷ more) = numberThen first 32 ++ numbers second more
 
 -- the line of a step: its place, counted from 1, then 0 or its refusal, then its value
 abbrev pub stepLine : (place refusal value : ℕ) → List ℕ
-stepLine place refusal value = threeNumbers place refusal value
+stepLine place refusal value = numbers place (refusal ∷ value ∷ [])
 
--- the line of a trusted office: the word `office`, the office, its final block, the length of its chain
-unfoldable pub officeLine : (office final size : ℕ) → List ℕ
-officeLine office final size = (111 ∷ 102 ∷ 102 ∷ 105 ∷ 99 ∷ 101 ∷ 32 ∷ []) ++ threeNumbers office final size
+-- the line of a trusted office: the word `office`, the office, its final block, the length of its chain, how many signed it
+unfoldable pub officeLine : (office final size signers : ℕ) → List ℕ
+officeLine office final size signers = (111 ∷ 102 ∷ 102 ∷ 105 ∷ 99 ∷ 101 ∷ 32 ∷ []) ++ numbers office (final ∷ size ∷ signers ∷ [])
 
 -- the line of a refused log: the word `log` and the number of the refusal
 unfoldable pub logLine : (number : ℕ) → List ℕ
-logLine number = (108 ∷ 111 ∷ 103 ∷ 32 ∷ []) ++ numberThen number 10
+logLine number = (108 ∷ 111 ∷ 103 ∷ 32 ∷ []) ++ numbers number []
 
 -- the text is written into a buffer from position `at` on: what fits is laid, and all of it is counted
 pub record TextWritten (before : List ℕ) (at : ℕ) (text : List ℕ) (next : ℕ) (after : List ℕ) : Type 0 where

@@ -27,7 +27,7 @@ fn fitted(report: &mut [u8], size: usize) -> usize
 
 // Writes the report of a log.
 fn write_report(report: &mut [u8], log: &[u8]) -> usize
-    ensures { λ r. ⌜ TextWritten (lent report) 0 (reportOf (lent log)) r (given report) × (r ≤ 2228800) ⌝ }
+    ensures { λ r. ⌜ TextWritten (lent report) 0 (reportOf (lent log)) r (given report) × (r ≤ 2228928) ⌝ }
 {
     let opening = read_opening(log);
     let fault = fault_of(log, opening.refusal, opening.next);
@@ -39,11 +39,11 @@ fn write_report(report: &mut [u8], log: &[u8]) -> usize
 }
 
 // Checks a log, writes the report into the buffer and gives its length. Where it does not fit, that is 0, and the buffer is all zero. No
-// report is longer than 2,228,800 bytes.
+// report is longer than 2,228,928 bytes.
 pub fn check(log: &[u8], report: &mut [u8]) -> usize
     ensures { λ r. ⌜ (r ≡ givenLength (lent log) (lent report))
         × (given report ≡ bufferAfter (lent log) (lent report))
-        × (length (reportOf (lent log)) ≤ 2228800) ⌝ }
+        × (length (reportOf (lent log)) ≤ 2228928) ⌝ }
 {
     let size = write_report(report, log);
     fitted(report, size)

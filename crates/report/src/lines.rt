@@ -36,19 +36,21 @@ pub(crate) fn write_batch<'a>(
 // Writes the line of a trusted office; nothing for any other.
 fn write_office(report: &mut [u8], at: usize, register: Register, q: u8) -> usize
     requires { ⌜ (q < 32) × (at ≤ 2 ^ 31) ⌝ }
-    ensures { λ r. ⌜ TextWritten (lent report) at (officeText register q) r (given report) × (r ≤ at + 18) ⌝ }
+    ensures { λ r. ⌜ TextWritten (lent report) at (officeText register q) r (given report) × (r ≤ at + 22) ⌝ }
 {
     if !register.is_trusted(Office(q)) {
         return at;
     }
     let last = register.final_block(Office(q));
-    write_office_line(report, at, q, last.0, register.chain_length(last))
+    let size = register.chain_length(last);
+    let told = register.notarised(Office(q), last);
+    write_office_line(report, at, q, last.0, size, told.signers)
 }
 
 // Writes the lines of the trusted offices, ascending.
 pub(crate) fn write_offices(report: &mut [u8], at: usize, register: Register) -> usize
     requires { ⌜ at ≤ 2 ^ 30 ⌝ }
-    ensures { λ r. ⌜ TextWritten (lent report) at (officeLines register 32) r (given report) × (r ≤ at + 576) ⌝ }
+    ensures { λ r. ⌜ TextWritten (lent report) at (officeLines register 32) r (given report) × (r ≤ at + 704) ⌝ }
 {
     let mut next = at;
     let mut q = 0;

@@ -14,7 +14,7 @@ use replay::body::steps_of;
 pub(crate) fn write_run(report: &mut [u8], log: &[u8], from: usize, register: Register) -> usize
     ensures { λ r. ⌜
         TextWritten (lent report) 0 (runLines register 1 (bodyAt (lent log) from .steps)) r (given report)
-        × (r ≤ 2228800) ⌝ }
+        × (r ≤ 2228928) ⌝ }
 {
     let mut current = register;
     let mut at = from;

@@ -5,7 +5,7 @@ ghost use Prim.Native.Nat.{_+_, _^_, _≤_, _<_};
 ghost use mathlib.Core.List.{_∷_, []};
 ghost use lib.ListN.{length, replicate, set};
 ghost use Rattle.words.specs.Lent.{lent, given};
-ghost use Rattle.report.specs.Text.{TextWritten, decimal, numberThen, threeNumbers, stepLine, officeLine, logLine};
+ghost use Rattle.report.specs.Text.{TextWritten, decimal, numberThen, numbers, stepLine, officeLine, logLine};
 
 // Writes one byte.
 fn put(report: &mut [u8], at: usize, byte: u8) -> usize
@@ -95,7 +95,7 @@ fn write_number(report: &mut [u8], at: usize, n: usize, behind: u8) -> usize
 // Writes three numbers and the line's end.
 fn write_three(report: &mut [u8], at: usize, first: usize, second: usize, third: usize) -> usize
     requires { ⌜ at + 63 < 2 ^ 64 ⌝ }
-    ensures { λ r. ⌜ TextWritten (lent report) at (threeNumbers first second third) r (given report) ⌝ }
+    ensures { λ r. ⌜ TextWritten (lent report) at (numbers first (second ∷ third ∷ [])) r (given report) ⌝ }
 {
     let after_first = write_number(report, at, first, b' ');
     let after_second = write_number(report, after_first, second, b' ');
@@ -116,19 +116,27 @@ pub(crate) fn write_step_line(
     write_three(report, at, place, refusal as usize, value as usize)
 }
 
-// Writes the line of an office: its number, its final block, the length of its chain.
+// Writes the line of an office: its number, its final block, the length of its chain, how many signed it.
 pub(crate) fn write_office_line(
     report: &mut [u8],
     at: usize,
     office: u8,
     last: u8,
     size: u8,
+    signers: u8,
 ) -> usize
     requires { ⌜ (at ≤ 2 ^ 32) × (office < 32) ⌝ }
-    ensures { λ r. ⌜ TextWritten (lent report) at (officeLine office last size) r (given report) × (r ≤ at + 18) ⌝ }
+    ensures { λ r. ⌜ TextWritten (lent report) at (officeLine office last size signers) r (given report) × (r ≤ at + 22) ⌝ }
 {
-    let next = write_word(report, at, b"office ");
-    write_three(report, next, office as usize, last as usize, size as usize)
+    let after_word = write_word(report, at, b"office ");
+    let after_office = write_number(report, after_word, office as usize, b' ');
+    write_three(
+        report,
+        after_office,
+        last as usize,
+        size as usize,
+        signers as usize,
+    )
 }
 
 // Writes the line of a refused log: the number of the refusal.

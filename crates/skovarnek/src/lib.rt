@@ -5,12 +5,12 @@ ghost use lib.ListN.{length};
 ghost use Rattle.report.specs.Reports.{reportOf, givenLength, bufferAfter};
 
 // Checks a log, writes the report and gives its length; where it does not fit, gives 0 and leaves a buffer of zeros. No report is longer than
-// 2,228,800 bytes.
+// 2,228,928 bytes.
 #[no_mangle]
 pub extern "C" fn skovarnek_check(log: &[u8], report: &mut [u8]) -> usize
     ensures { λ r. ⌜ (r ≡ givenLength (now (log .entry)) (now (report .entry)))
         × (now (report .exit) ≡ bufferAfter (now (log .entry)) (now (report .entry)))
-        × (length (reportOf (now (log .entry))) ≤ 2228800) ⌝ }
+        × (length (reportOf (now (log .entry))) ≤ 2228928) ⌝ }
 {
     report::check::check(log, report)
 }

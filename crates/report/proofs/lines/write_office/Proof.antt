@@ -23,20 +23,23 @@ returns c =
 returns-2 : tie.Need-returns-2
 returns-2 c =
     let at-line = c .before .before in
-    let at-length = at-line .before in
-    let at-final = at-length .before .before in
+    let at-count = at-line .before .before in
+    let at-length = at-count .before in
+    let at-final = at-length .before in
     let at-if1 = at-final .before in
     let begun = at-if1 .before .before .before in
     let a = begun .args in
     let some : trusted (bookOf (a .register)) (a .q) ≡ true = sym (at-if1 .before .is-trusted .ensures) ∙ not-false _ (at-if1 .if1 .left) in
     let line = at-line .write-office-line .ensures in
-    let told = office-some (a .register) (a .q) _ _ some (at-final .final-block .ensures) (at-length .chain-length .ensures) in
-    (rw told (line .0), line .1)
+    let is =
+    office-some (a .register) (a .q) _ _ _ some (at-final .final-block .ensures) (at-length .chain-length .ensures)
+    (at-count .notarised .ensures) in
+    (rw is (line .0), line .1)
 
 pub write-office-spec : {M : Type 1} → statement M
 write-office-spec =
     tie.close (tie.spec
     (λ c κs. search needs)
     returns
-    (λ c κs. search needs) (λ c κs. search needs) (λ c κs. search needs) (λ c. search needs)
+    (λ c κs. search needs) (λ c κs. search needs) (λ c κs. search needs) (λ c κs. search needs) (λ c. search needs)
     returns-2)

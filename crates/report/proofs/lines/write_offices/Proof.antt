@@ -12,7 +12,7 @@ use Rattle.report.proofs.lines.write_offices.Statement.{statement}
 use Rattle.report.proofs.lines.write_offices.Tie as tie
 
 abbrev Inv-loop : tie.InvT-loop
-Inv-loop report₀ at register next₀ q₀ report next q = (q ≤ 32) × (next ≤ at + 18 * q) × (TextWritten report₀ at (officeLines register q) next report)
+Inv-loop report₀ at register next₀ q₀ report next q = (q ≤ 32) × (next ≤ at + 22 * q) × (TextWritten report₀ at (officeLines register q) next report)
 
 abbrev μ-loop : tie.MeasureT-loop
 μ-loop report₀ at register next₀ q₀ report next q = 32 - q

@@ -1,13 +1,13 @@
 -- `report::text::write_log_line`: the word, and the number behind it.
 use borrow.Author.Needs.{needs}
 use native.Mathlib.Omega.{arith}
-use Rattle.report.specs.Text.{logLine}
+use Rattle.report.specs.Text.{numbers, logLine}
 use Rattle.report.proofs.TextLaws.{then}
 use Rattle.report.proofs.text.write_log_line.Statement.{statement}
 use Rattle.report.proofs.text.write_log_line.Tie as tie
 
 returns : tie.Need-returns
-unfolding logLine
+unfolding numbers logLine
 returns c =
     let at-number = c .before .before in
     let at-word = at-number .before .before .before .before in
