@@ -1,7 +1,8 @@
 //! The tests: hand-written cases, what the generated logs bring, what the logs
 //! to measure with are, that final chains agree and never go back, who has
-//! signed a block and how many have, the text form, the tool, and (feature
-//! `proved`) the comparison of both checkers and the proved program.
+//! signed a block and how many have, the text form, the tool, the C header's
+//! numbers, and (feature `proved`) the comparison of both checkers and the proved
+//! program.
 
 mod agreement;
 mod cases;
@@ -9,6 +10,7 @@ mod counts;
 mod coverage;
 mod decided;
 mod forks;
+mod header;
 mod heavy;
 mod logtool;
 mod never_back;

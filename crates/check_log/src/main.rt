@@ -3,16 +3,17 @@ ghost use mathlib.Core.Path.{_≡_};
 ghost use Prim.Native.Nat.{_≤_, _<_};
 ghost use lib.ListN.{length, take, replicate};
 ghost use Rattle.words.specs.Lent.{lent, given};
-ghost use Rattle.report.specs.Reports.{reportOf, givenLength, bufferAfter};
+ghost use Rattle.report.specs.Reports.{reportOf, longestReport, givenLength, bufferAfter};
 use libc::STDIN_FILENO;
 use libc::STDOUT_FILENO;
+use report::check::LONGEST_REPORT;
 use report::check::check;
 
 // One byte more than a log may have: enough for a long log to be refused as such.
 const LOG_ROOM: usize = 65537;
 
 // As many bytes as the longest report can have.
-const REPORT_ROOM: usize = 2228928;
+const REPORT_ROOM: usize = LONGEST_REPORT;
 
 // Room for a log, all zero.
 fn log_buffer() -> [u8; LOG_ROOM]
@@ -23,7 +24,7 @@ fn log_buffer() -> [u8; LOG_ROOM]
 
 // Room for a report, all zero.
 fn report_buffer() -> [u8; REPORT_ROOM]
-    ensures { λ r. ⌜ r ≡ replicate 2228928 0 ⌝ }
+    ensures { λ r. ⌜ r ≡ replicate longestReport 0 ⌝ }
 {
     [0; REPORT_ROOM]
 }
@@ -37,7 +38,7 @@ fn print(report: &[u8], size: usize)
 
 // Checks the first bytes of a buffer that has room for more than a log may have. The report fits, and it is what stands in front in its buffer then.
 fn check_first(log: &[u8], size: usize, report: &mut [u8]) -> usize
-    requires { ⌜ (size ≤ length (now log)) × (65536 < length (now log)) × (2228928 ≤ length (now report)) ⌝ }
+    requires { ⌜ (size ≤ length (now log)) × (65536 < length (now log)) × (longestReport ≤ length (now report)) ⌝ }
     ensures { λ r. ⌜ (r ≡ givenLength (take size (lent log)) (lent report))
         × (given report ≡ bufferAfter (take size (lent log)) (lent report))
         × (take r (given report) ≡ reportOf (take size (lent log)))

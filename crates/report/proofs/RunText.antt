@@ -20,7 +20,7 @@ use Rattle.register.specs.Views.{notarisedTest}
 use Rattle.register.specs.Chains.{lengthOf}
 use Rattle.register.specs.Runs.{afterSteps, answers, padded, ran}
 use Rattle.register.proofs.Running.{after-append, answers-append, length-answers}
-use Rattle.report.specs.Text.{TextWritten, officeLine}
+use Rattle.report.specs.Text.{TextWritten, officeLine, stepBytes}
 use Rattle.report.specs.Reports.{stepLines, officeText, officeLines, runLines}
 use Rattle.report.specs.Batches.{batchLines}
 use Rattle.report.proofs.TextLaws.{then, same-size}
@@ -85,7 +85,7 @@ office-some r q size last told h e long test =
 pub record SoFar (before report whole : List ℕ) (next place : ℕ) (r : Register) (rest : List Step) : Type 0 where
   pub sized : length report ≡ length before
   pub finish : {after : List ℕ} {later : ℕ} → TextWritten report next (runLines r place rest) later after → TextWritten before 0 whole later after
-  pub short : next + 17 ≤ 17 * place
+  pub short : next + stepBytes ≤ stepBytes * place
   pub few : place + length rest ≤ 131073
 
 -- nothing is written yet
@@ -116,7 +116,7 @@ module _ (r : Register) (place : ℕ) (rest : List Step) (count : ℕ) (given : 
 
     -- a run comes one part further
     pub run-goes-on : {before report after whole : List ℕ} {next later : ℕ} → SoFar before report whole next place r rest
-        → TextWritten report next (batchLines place (given .refusals) (given .values) count) later after → later ≤ next + 17 * count
+        → TextWritten report next (batchLines place (given .refusals) (given .values) count) later after → later ≤ next + stepBytes * count
         → SoFar before after whole later (place + count) (given .register) (drop count rest)
     run-goes-on so-far lines short =
         record {

@@ -10,7 +10,7 @@ use lib.ListN.{length, drop, set, length-append}
 use lib.Seq.{sets, sets-eq, length-sets, set-comm}
 use Rattle.words.specs.Tests.{choose}
 use Rattle.packed_log.proofs.BitRows.{sets-sets}
-use Rattle.report.specs.Text.{TextWritten, digitsBy, decimal, numberThen, numbers, stepLine, officeLine}
+use Rattle.report.specs.Text.{TextWritten, digitsBy, decimal, numberThen, numbers, stepLine, officeLine, stepBytes, officeBytes}
 
 -- a text, and then another behind it, is the joined text
 pub then : {l m k : List ℕ} {p q r : ℕ} {t u : List ℕ} → TextWritten l p t q m → TextWritten m q u r k → TextWritten l p (t ++ u) r k
@@ -104,14 +104,14 @@ unfolding numbers
 three-size i j k a b c fit x y z =
     numbers-more i _ a b (c ∷ []) (omega arith) x (numbers-more j _ b c [] (omega arith) y (number-size k c 10 (omega arith) z))
 
--- the line of a step is at most 17 bytes long
-pub step-line-size : (place refusal value : ℕ) → place ≤ 131072 → refusal < 256 → value < 65536 → length (stepLine place refusal value) ≤ 17
+-- the line of a step takes at most `stepBytes`
+pub step-line-size : (place refusal value : ℕ) → place ≤ 131072 → refusal < 256 → value < 65536 → length (stepLine place refusal value) ≤ stepBytes
 step-line-size place refusal value p r v =
     three-size 5 2 4 place refusal value (omega arith) (omega arith) (omega arith) (omega arith)
 
--- the line of an office is at most 22 bytes long
+-- and that of an office at most `officeBytes`
 pub office-line-size : (office final size signers : ℕ) → office < 32 → final < 256 → size < 256 → signers < 256
-    → length (officeLine office final size signers) ≤ 22
+    → length (officeLine office final size signers) ≤ officeBytes
 unfolding officeLine
 office-line-size office final size signers o f s k =
     let rest = three-size 2 2 2 final size signers (omega arith) (omega arith) (omega arith) (omega arith) in

@@ -1,5 +1,5 @@
 -- The report of a log.
-use Prim.Native.Nat.{ℕ, zero, suc, _+_}
+use Prim.Native.Nat.{ℕ, zero, suc, _+_, _*_}
 use mathlib.Core.List.{List, [], _∷_, _++_}
 use lib.Dec.{eqb, leb}
 use lib.ListN.{length, drop, replicate}
@@ -15,7 +15,7 @@ use Rattle.register.specs.Chains.{lengthOf}
 use Rattle.register.specs.Runs.{afterSteps, answers}
 use Rattle.packed_log.specs.Openings.{openingIn}
 use Rattle.replay.specs.Bodies.{bodyOf, faultOf}
-use Rattle.report.specs.Text.{stepLine, officeLine, logLine}
+use Rattle.report.specs.Text.{stepLine, officeLine, stepBytes, officeBytes, logLine}
 
 -- a line for each answer: its place, counted on from the one given, 0 or the refusal, the value
 unfoldable pub stepLines : (place : ℕ) → List Stepped → List ℕ
@@ -42,6 +42,10 @@ runLines r place steps = stepLines place (answers r steps) ++ officeLines (after
 -- the report: a log that does not read gives its number alone
 unfoldable pub reportOf : (log : List ℕ) → List ℕ
 reportOf log = choose (eqb (faultOf log) 0) (runLines (openingIn log .register) 1 (bodyOf log .steps)) (logLine (faultOf log))
+
+-- No report is longer: the shortest step takes four bits of a log, and there are at most 32 offices.
+abbrev pub longestReport : ℕ
+longestReport = 131072 * stepBytes + 32 * officeBytes
 
 -- the length that is returned: 0 where the report does not fit
 unfoldable pub givenLength : (log buffer : List ℕ) → ℕ

@@ -33,6 +33,13 @@ stepLine place refusal value = numbers place (refusal ∷ value ∷ [])
 unfoldable pub officeLine : (office final size signers : ℕ) → List ℕ
 officeLine office final size signers = (111 ∷ 102 ∷ 102 ∷ 105 ∷ 99 ∷ 101 ∷ 32 ∷ []) ++ numbers office (final ∷ size ∷ signers ∷ [])
 
+-- the most bytes that such lines take, where the numbers are those of a report
+abbrev pub stepBytes : ℕ
+stepBytes = 17
+
+abbrev pub officeBytes : ℕ
+officeBytes = 22
+
 -- the line of a refused log: the word `log` and the number of the refusal
 unfoldable pub logLine : (number : ℕ) → List ℕ
 logLine number = (108 ∷ 111 ∷ 103 ∷ 32 ∷ []) ++ numbers number []

@@ -6,12 +6,15 @@ ghost use lib.ListN.{length, replicate};
 ghost use Rattle.words.specs.Lent.{lent, given};
 ghost use Rattle.words.specs.Tests.{choose};
 ghost use Rattle.report.specs.Text.{TextWritten};
-ghost use Rattle.report.specs.Reports.{reportOf, givenLength, bufferAfter};
+ghost use Rattle.report.specs.Reports.{reportOf, longestReport, givenLength, bufferAfter};
 use crate::run::write_run;
 use crate::text::clear;
 use crate::text::write_log_line;
 use packed_log::opening::read_opening;
 use replay::body::fault_of;
+
+// No report is longer.
+pub const LONGEST_REPORT: usize = 2228928;
 
 // The report's length where it fits; else 0, and the buffer is all zero.
 fn fitted(report: &mut [u8], size: usize) -> usize
@@ -27,7 +30,7 @@ fn fitted(report: &mut [u8], size: usize) -> usize
 
 // Writes the report of a log.
 fn write_report(report: &mut [u8], log: &[u8]) -> usize
-    ensures { λ r. ⌜ TextWritten (lent report) 0 (reportOf (lent log)) r (given report) × (r ≤ 2228928) ⌝ }
+    ensures { λ r. ⌜ TextWritten (lent report) 0 (reportOf (lent log)) r (given report) × (r ≤ longestReport) ⌝ }
 {
     let opening = read_opening(log);
     let fault = fault_of(log, opening.refusal, opening.next);
@@ -39,11 +42,11 @@ fn write_report(report: &mut [u8], log: &[u8]) -> usize
 }
 
 // Checks a log, writes the report into the buffer and gives its length. Where it does not fit, that is 0, and the buffer is all zero. No
-// report is longer than 2,228,928 bytes.
+// report is longer than LONGEST_REPORT.
 pub fn check(log: &[u8], report: &mut [u8]) -> usize
     ensures { λ r. ⌜ (r ≡ givenLength (lent log) (lent report))
         × (given report ≡ bufferAfter (lent log) (lent report))
-        × (length (reportOf (lent log)) ≤ 2228928) ⌝ }
+        × (length (reportOf (lent log)) ≤ longestReport) ⌝ }
 {
     let size = write_report(report, log);
     fitted(report, size)

@@ -2,7 +2,7 @@
 ghost use Prim.Native.Nat.{_+_, _*_, _^_, _≤_, _<_};
 ghost use Rattle.words.specs.Lent.{lent, given};
 ghost use Rattle.register.specs.Limits.{batch};
-ghost use Rattle.report.specs.Text.{TextWritten};
+ghost use Rattle.report.specs.Text.{TextWritten, stepBytes, officeBytes};
 ghost use Rattle.report.specs.Reports.{officeText, officeLines};
 ghost use Rattle.report.specs.Batches.{batchLines};
 use crate::text::write_office_line;
@@ -22,7 +22,7 @@ pub(crate) fn write_batch<'a>(
 ) -> usize
     requires { ⌜ (count ≤ batch) × (place + count ≤ 131073) × (at ≤ 2 ^ 31) ⌝ }
     ensures { λ r. ⌜ TextWritten (lent report) at (batchLines place (lent refusals) (lent values) count) r (given report)
-        × (r ≤ at + 17 * count) ⌝ }
+        × (r ≤ at + stepBytes * count) ⌝ }
 {
     let mut next = at;
     let mut i = 0;
@@ -36,7 +36,7 @@ pub(crate) fn write_batch<'a>(
 // Writes the line of a trusted office; nothing for any other.
 fn write_office(report: &mut [u8], at: usize, register: Register, q: u8) -> usize
     requires { ⌜ (q < 32) × (at ≤ 2 ^ 31) ⌝ }
-    ensures { λ r. ⌜ TextWritten (lent report) at (officeText register q) r (given report) × (r ≤ at + 22) ⌝ }
+    ensures { λ r. ⌜ TextWritten (lent report) at (officeText register q) r (given report) × (r ≤ at + officeBytes) ⌝ }
 {
     if !register.is_trusted(Office(q)) {
         return at;
@@ -50,7 +50,7 @@ fn write_office(report: &mut [u8], at: usize, register: Register, q: u8) -> usiz
 // Writes the lines of the trusted offices, ascending.
 pub(crate) fn write_offices(report: &mut [u8], at: usize, register: Register) -> usize
     requires { ⌜ at ≤ 2 ^ 30 ⌝ }
-    ensures { λ r. ⌜ TextWritten (lent report) at (officeLines register 32) r (given report) × (r ≤ at + 704) ⌝ }
+    ensures { λ r. ⌜ TextWritten (lent report) at (officeLines register 32) r (given report) × (r ≤ at + 32 * officeBytes) ⌝ }
 {
     let mut next = at;
     let mut q = 0;

@@ -5,7 +5,7 @@ ghost use Prim.Native.Nat.{_+_, _^_, _≤_, _<_};
 ghost use mathlib.Core.List.{_∷_, []};
 ghost use lib.ListN.{length, replicate, set};
 ghost use Rattle.words.specs.Lent.{lent, given};
-ghost use Rattle.report.specs.Text.{TextWritten, decimal, numberThen, numbers, stepLine, officeLine, logLine};
+ghost use Rattle.report.specs.Text.{TextWritten, decimal, numberThen, numbers, stepLine, officeLine, stepBytes, officeBytes, logLine};
 
 // Writes one byte.
 fn put(report: &mut [u8], at: usize, byte: u8) -> usize
@@ -111,7 +111,7 @@ pub(crate) fn write_step_line(
     value: u16,
 ) -> usize
     requires { ⌜ (at ≤ 2 ^ 32) × (place ≤ 131072) ⌝ }
-    ensures { λ r. ⌜ TextWritten (lent report) at (stepLine place refusal value) r (given report) × (r ≤ at + 17) ⌝ }
+    ensures { λ r. ⌜ TextWritten (lent report) at (stepLine place refusal value) r (given report) × (r ≤ at + stepBytes) ⌝ }
 {
     write_three(report, at, place, refusal as usize, value as usize)
 }
@@ -126,7 +126,7 @@ pub(crate) fn write_office_line(
     signers: u8,
 ) -> usize
     requires { ⌜ (at ≤ 2 ^ 32) × (office < 32) ⌝ }
-    ensures { λ r. ⌜ TextWritten (lent report) at (officeLine office last size signers) r (given report) × (r ≤ at + 22) ⌝ }
+    ensures { λ r. ⌜ TextWritten (lent report) at (officeLine office last size signers) r (given report) × (r ≤ at + officeBytes) ⌝ }
 {
     let after_word = write_word(report, at, b"office ");
     let after_office = write_number(report, after_word, office as usize, b' ');

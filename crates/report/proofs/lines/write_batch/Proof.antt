@@ -5,14 +5,14 @@ use mathlib.Core.Path.{_≡_, refl, sym}
 use native.Mathlib.Nat.{add-zero}
 use native.Mathlib.Numerals.{add-one}
 use native.Mathlib.Omega.{arith}
-use Rattle.report.specs.Text.{TextWritten}
+use Rattle.report.specs.Text.{TextWritten, stepBytes}
 use Rattle.report.specs.Batches.{batchLines}
 use Rattle.report.proofs.TextLaws.{then, same-size}
 use Rattle.report.proofs.lines.write_batch.Statement.{statement}
 use Rattle.report.proofs.lines.write_batch.Tie as tie
 
 abbrev Inv-loop : tie.InvT-loop
-Inv-loop report₀ at place refusals values count next₀ i₀ report next i = (i ≤ count) × (next ≤ at + 17 * i) × (TextWritten report₀ at (batchLines place refusals values i) next report)
+Inv-loop report₀ at place refusals values count next₀ i₀ report next i = (i ≤ count) × (next ≤ at + stepBytes * i) × (TextWritten report₀ at (batchLines place refusals values i) next report)
 
 abbrev μ-loop : tie.MeasureT-loop
 μ-loop report₀ at place refusals values count next₀ i₀ report next i = count - i

@@ -5,14 +5,14 @@ use mathlib.Core.Path.{_≡_, refl, sym}
 use native.Mathlib.Nat.{add-zero}
 use native.Mathlib.Numerals.{add-one}
 use native.Mathlib.Omega.{arith}
-use Rattle.report.specs.Text.{TextWritten}
+use Rattle.report.specs.Text.{TextWritten, officeBytes}
 use Rattle.report.specs.Reports.{officeLines}
 use Rattle.report.proofs.TextLaws.{then, same-size}
 use Rattle.report.proofs.lines.write_offices.Statement.{statement}
 use Rattle.report.proofs.lines.write_offices.Tie as tie
 
 abbrev Inv-loop : tie.InvT-loop
-Inv-loop report₀ at register next₀ q₀ report next q = (q ≤ 32) × (next ≤ at + 22 * q) × (TextWritten report₀ at (officeLines register q) next report)
+Inv-loop report₀ at register next₀ q₀ report next q = (q ≤ 32) × (next ≤ at + officeBytes * q) × (TextWritten report₀ at (officeLines register q) next report)
 
 abbrev μ-loop : tie.MeasureT-loop
 μ-loop report₀ at register next₀ q₀ report next q = 32 - q
