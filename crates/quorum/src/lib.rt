@@ -15,17 +15,17 @@ pub const STRAY_LEADER: u8 = 3;
 pub const THIRD: u8 = 4;
 
 // The count of a block's signers: whether they are enough, and how many they are in either case.
-pub struct Count {
+pub struct SignerCount {
     pub enough: bool,
     pub signers: u8,
 }
 
 // Counts the members of a set of signers, of n offices. They are enough where three times their number is at least twice n.
-pub fn count_signers(set: u32, n: u8) -> Count
+pub fn count_signers(set: u32, n: u8) -> SignerCount
     ensures { λ r. ⌜ r ≡ countOf (tally n (inSet set)) n ⌝ }
 {
     let signers = words::members(set, n);
-    Count {
+    SignerCount {
         enough: 2 * (n as u32) <= 3 * signers,
         signers: signers as u8,
     }

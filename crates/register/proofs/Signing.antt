@@ -1,4 +1,4 @@
--- The word of a block's signers in an office's view: what its bits tell in a fit register, and that the code finds it in every register.
+-- The word of a block's signers in an office's view, and their count: what its bits tell in a fit register, and that the code finds both in every register.
 use Prim.Native.Nat.{ℕ, _≤_, _<_}
 use mathlib.Core.Path.{_≡_, refl, sym, _∙_}
 use mathlib.Core.Bool.{true, false}
@@ -13,7 +13,7 @@ use Rattle.words.specs.Digits.{digit, fill, inSet, setBits}
 use Rattle.words.proofs.Tests.{any-fails, both-none}
 use Rattle.words.proofs.Sums.{tally-ext, tally-past}
 use Rattle.words.proofs.Digits.{in-set, in-set-past, set-below, set-ext, set-none}
-use Rattle.quorum.specs.declared.Count.{Count}
+use Rattle.quorum.specs.declared.SignerCount.{SignerCount}
 use Rattle.quorum.specs.Enough.{countOf}
 use Rattle.tables.specs.Messages.{saysIn}
 use Rattle.tables.specs.Searches.{signersIn, viewIn}
@@ -52,7 +52,7 @@ module _ (r : Book) (q : ℕ) where
       ]
 
   -- and what their count tells of a block other than genesis is the notarised test
-  pub test-by-count : (b set : ℕ) (count : Count) → (b ≡ 0 → ⊥) → set ≡ signerSet r q b → count ≡ countOf (tally (r .n) (inSet set)) (r .n)
+  pub test-by-count : (b set : ℕ) (count : SignerCount) → (b ≡ 0 → ⊥) → set ≡ signerSet r q b → count ≡ countOf (tally (r .n) (inSet set)) (r .n)
       → record { holds = count .enough; signers = count .signers } ≡ notarisedTest r q b
   unfolding notarised signersOn either choose
   test-by-count b set count other same told = rw (told, same, members-count b, ne-eqb b 0 other)

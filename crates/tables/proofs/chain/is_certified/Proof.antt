@@ -4,7 +4,7 @@ use mathlib.Core.Path.{_≡_, ap}
 use borrow.Author.Tests.{le-ltb, lt-ltb}
 use lib.Dec.{ltb}
 use Rattle.words.specs.Tests.{both}
-use Rattle.quorum.specs.declared.Count.{Count}
+use Rattle.quorum.specs.declared.SignerCount.{SignerCount}
 use Rattle.tables.specs.Blocks.{parentIn, epochIn}
 use Rattle.tables.specs.Searches.{certifiedBy, enoughIn}
 use Rattle.tables.proofs.chain.is_certified.Statement.{statement}
@@ -24,6 +24,12 @@ returns-2 c =
     let same : start .args .set ≡ start .args .known = c .if2 .taken in
     rw (tests (c .before .before), lt-ltb _ _ (c .before .if1 .left), same, start .pre)
 
+returns-3 : tie.Need-returns-3
+unfolding both
+returns-3 c =
+    let enough = ap (λ (count : SignerCount). count .enough) (c .count-signers .ensures) in
+    rw (tests (c .before .before .before), lt-ltb _ _ (c .before .before .if1 .left)) enough
+
 pub is-certified-spec : {M : Type 1} → statement M
 unfolding both
 is-certified-spec =
@@ -31,4 +37,4 @@ is-certified-spec =
     (tie.spec (λ c κs. search needs) (λ c κs. search needs) (λ c κs. search needs)
     (λ c. rw (tests (c .before), le-ltb _ _ (c .if1 .taken)))
     returns-2 (λ c κs. search needs)
-    (λ c. rw (tests (c .before .before .before), lt-ltb _ _ (c .before .before .if1 .left)) (ap (λ (k : Count). k .enough) (c .count-signers .ensures))))
+    returns-3)
