@@ -42,8 +42,8 @@ fn write_office(report: &mut [u8], at: usize, register: Register, q: u8) -> usiz
         return at;
     }
     let last = register.final_block(Office(q));
-    let size = register.chain_length(last);
     let told = register.notarised(Office(q), last);
+    let size = register.chain_length(last);
     write_office_line(report, at, q, last.0, size, told.signers)
 }
 

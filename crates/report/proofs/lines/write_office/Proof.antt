@@ -23,9 +23,9 @@ returns c =
 returns-2 : tie.Need-returns-2
 returns-2 c =
     let at-line = c .before .before in
-    let at-count = at-line .before .before in
-    let at-length = at-count .before in
-    let at-final = at-length .before in
+    let at-length = at-line .before .before in
+    let at-count = at-length .before in
+    let at-final = at-count .before in
     let at-if1 = at-final .before in
     let begun = at-if1 .before .before .before in
     let a = begun .args in
