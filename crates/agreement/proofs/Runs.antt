@@ -183,7 +183,8 @@ fork = record { n = 4; trust = 7; schedule = 3 ∷ 2 ∷ 1 ∷ 2 ∷ 1 ∷ []; a
 -- moment 47 office 2's final chain is that of block 4, and at the end that of block 5; before, at moment 42, the longer chain of block 5 is notarised in
 -- office 1's view; and at moment 47 the chain of block 1, which forks off from both, is notarised in office 0's. Of block 1 office 0 has the signatures
 -- of 0, 1 and 3, bits of the word 1 + 2 + 8; office 1, whom the vote of office 0 has not reached, those of 1 and 3. So the notarised test tells the one
--- that three signed, which is enough of four, and the other that two did; of genesis it tells every office four, and an office without a view nothing.
+-- that three signed, which is enough of four, and the other that two did; the untrusted office, which has no view, that nobody did; and of genesis that
+-- all four did.
 pub record Forked : Type 0 where
   pub refusals : map (λ (s : Stepped). s .refusal) (answers (opened fork) (fork .steps))
       ≡ replicate 34 0 ++ (21 ∷ replicate 20 0 ++ (32 ∷ 0 ∷ []))
