@@ -4,6 +4,9 @@ use crate::packed::{Log, read_log};
 use crate::refusal::Refusal;
 use crate::register::{Answer, Office, Register};
 
+/// The only line on a log of no bytes: whoever sends it has no log yet.
+pub const EMPTY: &str = "empty";
+
 /// The report on a log.
 pub fn check(log: &[u8]) -> Vec<u8> {
     let mut report = Vec::new();
@@ -12,8 +15,12 @@ pub fn check(log: &[u8]) -> Vec<u8> {
 }
 
 /// Puts the report on a log behind what is in `report`. A fault anywhere in the
-/// log suppresses all lines but `log` and its number.
+/// log suppresses all lines but `log` and its number. A log of no bytes is not
+/// read at all, so that it has no fault.
 pub fn check_onto(log: &[u8], report: &mut Vec<u8>) {
+    if log.is_empty() {
+        return put_line(report, EMPTY.as_bytes(), []);
+    }
     match open(log) {
         Ok((log, register)) => run(&log, register, report),
         Err(refusal) => put_line(report, b"log ", [refusal.number().into()]),

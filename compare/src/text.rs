@@ -24,6 +24,9 @@ use crate::refusal::Refusal;
 use crate::register::{Kind, Office, Opening, Step};
 use std::fmt::Write;
 
+/// What a log of no bytes means.
+pub const NO_LOG: &str = "a log of no bytes: there is no log yet";
+
 /// The word and the fields of each kind.
 const WORDS: [(&str, &[&str]); 9] = [
     ("end", &[]),
@@ -117,7 +120,8 @@ impl Fault {
     }
 }
 
-/// The text of a log as far as it reads, and the fault if it has one.
+/// The text of a log as far as it reads, and the fault if it has one. A log of
+/// no bytes is cut, as it is for every reader.
 pub fn text_so_far(log: &[u8]) -> (String, Option<Fault>) {
     let mut reader = Reader::new(log);
     let mut text = String::new();

@@ -2,6 +2,7 @@
 //! `logtool explain < log`.
 
 use skovarnek_compare::packed::write_log;
+use skovarnek_compare::report::EMPTY;
 use skovarnek_compare::text;
 use std::env;
 use std::io::{self, Read, Write};
@@ -31,9 +32,14 @@ fn main() -> ExitCode {
 }
 
 /// A log that doesn't read gives its text as far as it reads, and the fault
-/// behind a `#`.
+/// behind a `#`. A log of no bytes has no fault: behind the `#` stands what it
+/// means.
 fn to_text() -> Result<(), String> {
-    let (mut text, fault) = text::text_so_far(&input()?);
+    let log = input()?;
+    if log.is_empty() {
+        return output(format!("# {EMPTY}, {}\n", text::NO_LOG).as_bytes());
+    }
+    let (mut text, fault) = text::text_so_far(&log);
     let fault = fault.map(|fault| format!("log {}, {}", fault.refusal.number(), fault.phrase()));
     if let Some(fault) = &fault {
         text.push_str(&format!("# {fault}\n"));

@@ -1,13 +1,16 @@
 //! The report with its meaning beside each line.
 
-use super::{step_text, text_so_far};
+use super::{NO_LOG, step_text, text_so_far};
 use crate::packed::read_log;
 use crate::register::{Answer, Message, Office, Register, Step};
-use crate::report::{put_office, put_step};
+use crate::report::{EMPTY, put_office, put_step};
 use std::fmt::Write;
 
 /// The report on a log; beside each line the step's text and what became of it.
 pub fn explain(log: &[u8]) -> String {
+    if log.is_empty() {
+        return format!("{EMPTY}    {NO_LOG}\n");
+    }
     if let (_, Some(fault)) = text_so_far(log) {
         return format!("log {}    {}\n", fault.refusal.number(), fault.phrase());
     }

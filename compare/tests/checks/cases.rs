@@ -1,6 +1,7 @@
 //! Hand-written cases with their exact reports.
 
 mod counts;
+mod empty;
 mod full;
 mod packing;
 mod readings;
@@ -29,6 +30,7 @@ pub fn all() -> Vec<Case> {
         counts::cases(),
         full::cases(),
         packing::cases(),
+        empty::cases(),
     ];
     groups.into_iter().flatten().collect()
 }
@@ -190,4 +192,9 @@ fn full_tables() {
 #[test]
 fn packed_logs() {
     assert_cases(packing::cases());
+}
+
+#[test]
+fn no_bytes_and_hardly_any() {
+    assert_cases(empty::cases());
 }

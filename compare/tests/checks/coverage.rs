@@ -1,7 +1,7 @@
 //! What the generated logs bring: each refusal that a log can bring, in each
-//! step that can bring it, accepted steps of each kind, forks, final chains that
-//! grow, stay or would go back, chains that have just begun, and steps that are
-//! decided by one signer.
+//! step that can bring it, accepted steps of each kind, no bytes at all, forks,
+//! final chains that grow, stay or would go back, chains that have just begun,
+//! and steps that are decided by one signer.
 
 use super::decided::Decision;
 use super::forks::{chain, chains_after_fork, notarised_tips, register_after};
@@ -12,11 +12,15 @@ use skovarnek_compare::register::{Block, Kind, Office, Place, Register, Step};
 use skovarnek_compare::text::step_word;
 use std::collections::BTreeMap;
 
+/// The outcome of a log of no bytes, which is neither accepted nor refused. No
+/// refusal has this number.
+const EMPTY: u8 = u8::MAX;
+
 /// By kind of step, the outcomes that a log can show: 0 is accepted. Kind 0 is
 /// the log itself.
 const OUTCOMES: [&[u8]; 9] = [
-    // The log itself.
-    &[0, 1, 2, 3, 4, 27, 28, 29, 30],
+    // The log itself; 27 is for those with bytes.
+    &[0, 1, 2, 3, 4, 27, 28, 29, 30, EMPTY],
     // Propose: 20 needs a notarised block of this epoch before the leader acts.
     &[0, 6, 7, 10, 12, 13, 19, 25, 26],
     // Vote
@@ -39,16 +43,24 @@ type Table = BTreeMap<(u8, u8), usize>;
 
 fn count(log: &[u8], table: &mut Table) {
     let outcome = |refusal: Option<Refusal>| refusal.map_or(0, Refusal::number);
-    let mut hit = |kind: u8, refusal| *table.entry((kind, outcome(refusal))).or_default() += 1;
+    let mut hit = |kind: u8, outcome: u8| *table.entry((kind, outcome)).or_default() += 1;
     match read_log(log) {
-        Err(refusal) => hit(0, Some(refusal)),
+        Err(_) if log.is_empty() => hit(0, EMPTY),
+        Err(refusal) => hit(0, outcome(Some(refusal))),
         Ok(log) => {
-            hit(0, None);
+            hit(0, 0);
             let mut register = Register::open(&log.opening).expect("a log that reads opens");
             for step in &log.steps {
-                hit(step.kind(), register.step(step).err());
+                hit(step.kind(), outcome(register.step(step).err()));
             }
         }
+    }
+}
+
+fn outcome_text(outcome: u8) -> String {
+    match outcome {
+        EMPTY => "empty".to_string(),
+        _ => outcome.to_string(),
     }
 }
 
@@ -64,11 +76,11 @@ fn generated_logs_bring_everything() {
         let hits = |outcome: u8| table.get(&(kind, outcome)).copied().unwrap_or(0);
         let row: Vec<String> = outcomes
             .iter()
-            .map(|&o| format!("{o}: {}", hits(o)))
+            .map(|&o| format!("{}: {}", outcome_text(o), hits(o)))
             .collect();
         println!("{word:<9} {}", row.join("  "));
         let absent = outcomes.iter().filter(|&&outcome| hits(outcome) == 0);
-        missing.extend(absent.map(|outcome| format!("{word} {outcome}")));
+        missing.extend(absent.map(|&o| format!("{word} {}", outcome_text(o))));
     }
     assert!(missing.is_empty(), "never brought: {}", missing.join(", "));
     let known = |&(kind, outcome): &(u8, u8)| OUTCOMES[usize::from(kind)].contains(&outcome);

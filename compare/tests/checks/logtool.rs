@@ -2,6 +2,7 @@
 
 use super::cases;
 use skovarnek_compare::check;
+use skovarnek_compare::packed::read_log;
 use std::fs;
 use std::io::Write;
 use std::path::{Path, PathBuf};
@@ -92,21 +93,25 @@ fn from_genesis_explained() {
     assert_eq!(lines, wanted);
 }
 
-/// Each sample log has its text and its report beside it.
+/// Each sample log has its text and its report beside it. One that reads can be
+/// had back from its text. Only a damaged one makes `logtool text` fail.
 #[test]
 fn sample_logs() {
     let files = fs::read_dir(sample("")).expect("a folder");
     let paths = files.map(|file| file.expect("a file").path());
     let is_log = |path: &PathBuf| path.extension().is_some_and(|end| end == "log");
     let logs: Vec<PathBuf> = paths.filter(is_log).collect();
-    assert!(logs.len() >= 6, "{logs:?}");
+    assert!(logs.len() >= 7, "{logs:?}");
     for path in logs {
         let beside = |end: &str| fs::read(path.with_extension(end)).expect("a file");
         let log = beside("log");
         let text = logtool("text", &log);
         assert_eq!(words(&text.stdout), words(&beside("txt")), "{path:?}");
         assert_eq!(words(&check(&log)), words(&beside("report")), "{path:?}");
-        if text.status.success() {
+        let reads = read_log(&log).is_ok();
+        let damaged = !reads && !log.is_empty();
+        assert_eq!(text.status.success(), !damaged, "{path:?}");
+        if reads {
             assert_eq!(logtool("log", &text.stdout).stdout, log, "{path:?}");
         }
     }
@@ -127,6 +132,29 @@ fn a_log_that_does_not_read() {
     let text = logtool("text", &log);
     assert!(!text.status.success());
     assert!(words(&text.stdout).contains("leaders 0 0 0\n# log 29, ending: "));
+}
+
+/// A log of no bytes is no failure. Its text says nothing that a log could be
+/// written from.
+#[test]
+fn no_log_yet() {
+    let log = fs::read(sample("no-log-yet.log")).expect("a log");
+    assert!(log.is_empty());
+    let explained = logtool("explain", &log);
+    let wanted = "empty    a log of no bytes: there is no log yet\n";
+    assert_eq!(words(&explained.stdout), wanted);
+    let text = logtool("text", &log);
+    let wanted = "# empty, a log of no bytes: there is no log yet\n";
+    assert_eq!(words(&text.stdout), wanted);
+    for output in [&explained, &text] {
+        assert!(output.status.success());
+        assert!(output.stderr.is_empty());
+    }
+    let back = logtool("log", &text.stdout);
+    assert!(!back.status.success());
+    assert!(back.stdout.is_empty());
+    let wanted = "line 2: the text ends where `offices` is due\n";
+    assert_eq!(words(&back.stderr), wanted);
 }
 
 #[test]

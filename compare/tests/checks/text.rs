@@ -3,6 +3,7 @@
 use super::{cases, seeds};
 use skovarnek_compare::generate;
 use skovarnek_compare::packed::{read_log, write_log};
+use skovarnek_compare::refusal::Refusal;
 use skovarnek_compare::text::{explain, log_text, parse, text_so_far};
 
 fn assert_round_trip(name: &str, bytes: &[u8]) {
@@ -170,7 +171,8 @@ fn faults_in_a_phrase() {
     let long = vec![0; 65_537];
     let cases: [(&[u8], &str); 5] = [
         (
-            &[],
+            // n 3 and two trust bits.
+            &[0x0F],
             "log 27 cut: log ends before or inside a field that is due (in the opening)",
         ),
         (&[0], "log 1 count: n not 1 to 32 (in the opening)"),
@@ -191,4 +193,14 @@ fn faults_in_a_phrase() {
         let words: Vec<&str> = explained.split_whitespace().collect();
         assert_eq!(words.join(" "), phrase);
     }
+}
+
+/// A log of no bytes is not called damaged, though the readers find it cut.
+#[test]
+fn no_bytes_in_a_phrase() {
+    let wanted = "empty    a log of no bytes: there is no log yet\n";
+    assert_eq!(explain(&[]), wanted);
+    let (text, fault) = text_so_far(&[]);
+    assert_eq!(text, "");
+    assert_eq!(fault.map(|fault| fault.refusal), Some(Refusal::Cut));
 }

@@ -152,7 +152,6 @@ fn thirds() -> Vec<Case> {
 
 fn cuts() -> Vec<Case> {
     vec![
-        bit_case("an empty log", "", "log 27"),
         bit_case("cut in the trust bits", "000011 11", "log 27"),
         bit_case(
             "cut in a length that starts wrong",
@@ -286,14 +285,16 @@ fn lengths() -> Vec<Case> {
     ]
 }
 
+/// Cut to one byte or more. What is cut to none is no log yet.
 #[test]
 fn every_cut_of_the_whole_case() {
     let whole = super::whole::cases().swap_remove(0).log;
-    for length in 0..whole.len() {
+    for length in 1..whole.len() {
         assert_eq!(
             check(&whole[..length]),
             b"log 27\n",
             "cut to {length} bytes"
         );
     }
+    assert_eq!(check(&whole[..0]), b"empty\n");
 }
