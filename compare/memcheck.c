@@ -1,5 +1,6 @@
 /* Checks the logs whose names are given with buffers of every kind of length: longer than the report, just as long, shorter, and empty.
- * Each buffer and each log has memory of its own, so that memcheck sees every byte read or written outside of it. */
+ * Each buffer and each log has memory of its own, so that memcheck sees every byte read or written outside of it. No bytes, of a log or for
+ * a report, are lent with pointers that are good for none. */
 #include <stdio.h>
 #include <stdlib.h>
 #include <string.h>
@@ -21,6 +22,17 @@ static int check_with(const uint8_t *log, size_t log_len, const uint8_t *report,
     return bad;
 }
 
+/* Checks a log of no bytes with buffers of 0 to 8 bytes; the pointer may be any. */
+static int check_no_bytes(const uint8_t *log)
+{
+    static const uint8_t report[] = { 'e', 'm', 'p', 't', 'y', '\n' };
+    int bad = skovarnek_check(log, 0, NULL, 0) != 0;
+    for (size_t room = 0; room <= 8; room++) {
+        bad |= check_with(log, 0, report, sizeof report, room);
+    }
+    return bad;
+}
+
 static int check_file(const char *name)
 {
     static uint8_t bytes[SKOVARNEK_LONGEST_LOG + 1], report[SKOVARNEK_LONGEST_REPORT];
@@ -39,6 +51,8 @@ static int check_file(const char *name)
     for (size_t i = 0; i < sizeof rooms / sizeof *rooms; i++) {
         bad |= check_with(log, log_len, report, length, rooms[i]);
     }
+    bad |= skovarnek_check(log, log_len, NULL, 0) != 0;
+    bad |= check_no_bytes(log + log_len);
     free(log);
     if (bad) {
         fprintf(stderr, "%s: a wrong answer\n", name);
@@ -49,6 +63,10 @@ static int check_file(const char *name)
 int main(int count, char **names)
 {
     int bad = count < 2;
+    if (check_no_bytes(NULL)) {
+        fprintf(stderr, "null and a length of 0: a wrong answer\n");
+        bad = 1;
+    }
     for (int i = 1; i < count; i++) {
         bad |= check_file(names[i]);
     }

@@ -1,6 +1,6 @@
 #!/usr/bin/env bash
-# Runs the C call under valgrind's memcheck over a hundred generated logs, damaged ones among them, with buffers of many lengths. It needs
-# the static library and valgrind.
+# Runs the C call under valgrind's memcheck over a hundred generated logs, damaged ones among them, with buffers of many lengths, and with
+# null for a log or a report of no bytes. It needs the static library and valgrind.
 set -euo pipefail
 cd "$(dirname "$0")"
 folder=target/memcheck

@@ -9,14 +9,43 @@ unsafe extern "C" {
     -> usize;
 }
 
+/// A log as a C program lends it.
+#[derive(Clone, Copy, Debug)]
+pub enum LentLog<'a> {
+    Bytes(&'a [u8]),
+    /// A length of 0, and any pointer with it.
+    NoBytes(*const u8),
+}
+
+/// A buffer as a C program lends it.
+#[derive(Debug)]
+pub enum LentBuffer<'a> {
+    Bytes(&'a mut [u8]),
+    /// A length of 0, and any pointer with it.
+    NoBytes(*mut u8),
+}
+
 /// Writes the report on a log into the buffer and gives its length; later bytes
 /// are untouched. If the report doesn't fit: 0, and the whole buffer is zero.
 pub fn check_into(log: &[u8], buffer: &mut [u8]) -> usize {
-    // SAFETY: both pointers are good for their lengths during the call, and the
-    // exclusive borrow of the buffer keeps it apart from the log.
-    let length =
-        unsafe { skovarnek_check(log.as_ptr(), log.len(), buffer.as_mut_ptr(), buffer.len()) };
-    assert!(length <= buffer.len(), "a length beyond the lent buffer");
+    check_lent(LentLog::Bytes(log), LentBuffer::Bytes(buffer))
+}
+
+/// The same with what a C program may lend.
+pub fn check_lent(log: LentLog, buffer: LentBuffer) -> usize {
+    let (log, log_len) = match log {
+        LentLog::Bytes(bytes) => (bytes.as_ptr(), bytes.len()),
+        LentLog::NoBytes(pointer) => (pointer, 0),
+    };
+    let (report, report_len) = match buffer {
+        LentBuffer::Bytes(bytes) => (bytes.as_mut_ptr(), bytes.len()),
+        LentBuffer::NoBytes(pointer) => (pointer, 0),
+    };
+    // SAFETY: a pointer with a length above 0 comes from a borrow that outlives
+    // the call, and the exclusive one of the buffer keeps it apart from the log.
+    // With a length of 0 the call takes any pointer.
+    let length = unsafe { skovarnek_check(log, log_len, report, report_len) };
+    assert!(length <= report_len, "a length beyond the lent buffer");
     length
 }
 

@@ -7,6 +7,9 @@ use std::io::{ErrorKind, Write};
 use std::path::{Path, PathBuf};
 use std::process::{Command, Stdio};
 
+/// The program, as the repository builds it.
+const PROGRAM: &str = "target/bin/check_log";
+
 /// The most bytes that a log may have.
 const LONGEST: usize = 65_536;
 
@@ -18,7 +21,7 @@ fn at(path: &str) -> PathBuf {
 /// What the program prints of a log. It stops reading one byte after the
 /// longest log, so that the pipe may be closed before all is written.
 fn printed(log: &[u8]) -> Vec<u8> {
-    let program = at("target/bin/check_log");
+    let program = at(PROGRAM);
     let mut child = Command::new(&program)
         .stdin(Stdio::piped())
         .stdout(Stdio::piped())
@@ -61,6 +64,18 @@ fn cases() {
     for case in super::cases::all() {
         assert_prints(&case.name, &case.log);
     }
+}
+
+/// From a pipe that is closed at once, and from an empty file.
+#[test]
+fn no_bytes() {
+    assert_eq!(printed(b""), b"empty\n");
+    let mut program = Command::new(at(PROGRAM));
+    let output = program.stdin(Stdio::null()).output();
+    let output = output.expect("the program ends");
+    assert!(output.status.success());
+    assert_eq!(output.stdout, b"empty\n");
+    assert_eq!(output.stderr, b"");
 }
 
 #[test]

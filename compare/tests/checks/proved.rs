@@ -1,8 +1,9 @@
 //! Both checkers, byte for byte.
 
 use super::{cases, seeds, seeds_or};
+use skovarnek_compare::proved::{LentBuffer, LentLog, check_lent};
 use skovarnek_compare::{check, generate, proved, text};
-use std::thread;
+use std::{ptr, thread};
 
 /// Fills the lent buffer before a call, so that each byte written shows.
 const DIRT: u8 = 0xA5;
@@ -41,6 +42,12 @@ fn difference(log: &[u8], ours: &[u8], theirs: &[u8]) -> String {
 fn assert_buffer(name: &str, log: &[u8], report: &[u8], length: usize) {
     let mut buffer = vec![DIRT; length];
     let written = proved::check_into(log, &mut buffer);
+    assert_left(name, report, &buffer, written);
+}
+
+/// What a call has left in the buffer, which was dirty, and what it has given.
+fn assert_left(name: &str, report: &[u8], buffer: &[u8], written: usize) {
+    let length = buffer.len();
     if report.len() <= length {
         assert_eq!(written, report.len(), "{name}, buffer of {length}");
         assert_eq!(&buffer[..written], report, "{name}, buffer of {length}");
@@ -132,5 +139,86 @@ fn buffers_for_a_long_report() {
     let length = case.report.len();
     for length in [length - 1, length, length + 1] {
         assert_buffer(&case.name, &case.log, case.report.as_bytes(), length);
+    }
+}
+
+/// The report on a log of no bytes.
+const EMPTY: &[u8] = b"empty\n";
+
+/// Buffers too short for that report, just as long, and longer.
+const ROOMS: std::ops::RangeInclusive<usize> = 0..=8;
+
+/// Pointers that aren't good for a single byte.
+fn pointers_to_nothing() -> Vec<(&'static str, *mut u8)> {
+    let mut bytes = vec![DIRT; 8];
+    let freed = bytes.as_mut_ptr();
+    drop(bytes);
+    vec![
+        ("null", ptr::null_mut()),
+        ("dangling", ptr::dangling_mut()),
+        ("misaligned", ptr::without_provenance_mut(4099)),
+        ("the last address", ptr::without_provenance_mut(usize::MAX)),
+        ("freed", freed),
+    ]
+}
+
+/// A call for a log of no bytes with a buffer of this length. The bytes around
+/// the buffer are not lent.
+fn assert_empty(name: &str, log: *const u8, length: usize) {
+    let mut memory = vec![DIRT; 8 + length + 8];
+    let lent = LentBuffer::Bytes(&mut memory[8..8 + length]);
+    let written = check_lent(LentLog::NoBytes(log), lent);
+    let (before, rest) = memory.split_at(8);
+    let (buffer, behind) = rest.split_at(length);
+    assert_left(name, EMPTY, buffer, written);
+    assert_eq!([before, behind], [&[DIRT; 8]; 2], "{name}");
+}
+
+#[test]
+fn a_log_of_no_bytes_anywhere() {
+    for (name, pointer) in pointers_to_nothing() {
+        for length in ROOMS {
+            assert_empty(&format!("a log of no bytes, {name}"), pointer, length);
+        }
+    }
+}
+
+/// No bytes share no byte with the buffer, wherever they are.
+#[test]
+fn a_log_of_no_bytes_in_the_buffer() {
+    for length in ROOMS {
+        for place in 0..=length {
+            let mut buffer = vec![DIRT; length];
+            let log = LentLog::NoBytes(buffer[place..].as_ptr());
+            let written = check_lent(log, LentBuffer::Bytes(&mut buffer));
+            let name = format!("a log of no bytes at byte {place}");
+            assert_left(&name, EMPTY, &buffer, written);
+        }
+    }
+}
+
+/// No report fits.
+#[test]
+fn a_buffer_of_no_bytes_anywhere() {
+    let whole = cases::all().swap_remove(0).log;
+    for log in [&whole[..], &[0], &[]] {
+        let before = log.to_vec();
+        let mut pointers = pointers_to_nothing();
+        pointers.push(("in the log", log.as_ptr().cast_mut()));
+        for (name, pointer) in pointers {
+            let written = check_lent(LentLog::Bytes(log), LentBuffer::NoBytes(pointer));
+            assert_eq!(written, 0, "a buffer of no bytes, {name}");
+            assert_eq!(log, before, "a buffer of no bytes, {name}");
+        }
+    }
+}
+
+#[test]
+fn no_bytes_at_all_anywhere() {
+    for (log_name, log) in pointers_to_nothing() {
+        for (buffer_name, buffer) in pointers_to_nothing() {
+            let written = check_lent(LentLog::NoBytes(log), LentBuffer::NoBytes(buffer));
+            assert_eq!(written, 0, "log {log_name}, buffer {buffer_name}");
+        }
     }
 }
