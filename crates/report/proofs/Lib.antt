@@ -2,4 +2,5 @@
 pub mod TextLaws
 pub mod RunText
 pub mod CheckLaws
+pub mod EmptyLaws
 pub mod Claims

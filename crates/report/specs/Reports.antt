@@ -15,7 +15,7 @@ use Rattle.register.specs.Chains.{lengthOf}
 use Rattle.register.specs.Runs.{afterSteps, answers}
 use Rattle.packed_log.specs.Openings.{openingIn}
 use Rattle.replay.specs.Bodies.{bodyOf, faultOf}
-use Rattle.report.specs.Text.{stepLine, officeLine, stepBytes, officeBytes, logLine}
+use Rattle.report.specs.Text.{stepLine, officeLine, stepBytes, officeBytes, logLine, emptyLine}
 
 -- a line for each answer: its place, counted on from the one given, 0 or the refusal, the value
 unfoldable pub stepLines : (place : ℕ) → List Stepped → List ℕ
@@ -39,9 +39,12 @@ officeLines r (suc q) = officeLines r q ++ officeText r q
 unfoldable pub runLines : Register → (place : ℕ) → List Step → List ℕ
 runLines r place steps = stepLines place (answers r steps) ++ officeLines (afterSteps r steps) 32
 
--- the report: a log that does not read gives its number alone
+-- the report: a log of no bytes gives the word `empty` alone; another that does not read, its number alone; one that reads, the lines of its steps and of
+-- the offices
 unfoldable pub reportOf : (log : List ℕ) → List ℕ
-reportOf log = choose (eqb (faultOf log) 0) (runLines (openingIn log .register) 1 (bodyOf log .steps)) (logLine (faultOf log))
+reportOf log =
+    choose (eqb (length log) 0) emptyLine
+    (choose (eqb (faultOf log) 0) (runLines (openingIn log .register) 1 (bodyOf log .steps)) (logLine (faultOf log)))
 
 -- No report is longer: the shortest step takes four bits of a log, and there are at most 32 offices.
 abbrev pub longestReport : ℕ

@@ -44,6 +44,10 @@ officeBytes = 22
 unfoldable pub logLine : (number : ℕ) → List ℕ
 logLine number = (108 ∷ 111 ∷ 103 ∷ 32 ∷ []) ++ numbers number []
 
+-- the line of a log of no bytes: the word `empty`
+unfoldable pub emptyLine : List ℕ
+emptyLine = 101 ∷ 109 ∷ 112 ∷ 116 ∷ 121 ∷ 10 ∷ []
+
 -- the text is written into a buffer from position `at` on: what fits is laid, and all of it is counted
 pub record TextWritten (before : List ℕ) (at : ℕ) (text : List ℕ) (next : ℕ) (after : List ℕ) : Type 0 where
   pub counted : next ≡ at + length text

@@ -9,6 +9,7 @@ ghost use Rattle.report.specs.Text.{TextWritten};
 ghost use Rattle.report.specs.Reports.{reportOf, longestReport, givenLength, bufferAfter};
 use crate::run::write_run;
 use crate::text::clear;
+use crate::text::write_empty_line;
 use crate::text::write_log_line;
 use packed_log::opening::read_opening;
 use replay::body::fault_of;
@@ -32,6 +33,9 @@ fn fitted(report: &mut [u8], size: usize) -> usize
 fn write_report(report: &mut [u8], log: &[u8]) -> usize
     ensures { λ r. ⌜ TextWritten (lent report) 0 (reportOf (lent log)) r (given report) × (r ≤ longestReport) ⌝ }
 {
+    if log.len() == 0 {
+        return write_empty_line(report, 0);
+    }
     let opening = read_opening(log);
     let fault = fault_of(log, opening.refusal, opening.next);
     if fault != 0 {

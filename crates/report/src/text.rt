@@ -5,7 +5,7 @@ ghost use Prim.Native.Nat.{_+_, _^_, _≤_, _<_};
 ghost use mathlib.Core.List.{_∷_, []};
 ghost use lib.ListN.{length, replicate, set};
 ghost use Rattle.words.specs.Lent.{lent, given};
-ghost use Rattle.report.specs.Text.{TextWritten, decimal, numberThen, numbers, stepLine, officeLine, stepBytes, officeBytes, logLine};
+ghost use Rattle.report.specs.Text.{TextWritten, decimal, numberThen, numbers, stepLine, officeLine, stepBytes, officeBytes, logLine, emptyLine};
 
 // Writes one byte.
 fn put(report: &mut [u8], at: usize, byte: u8) -> usize
@@ -146,4 +146,12 @@ pub(crate) fn write_log_line(report: &mut [u8], at: usize, number: u8) -> usize
 {
     let next = write_word(report, at, b"log ");
     write_number(report, next, number as usize, b'\n')
+}
+
+// Writes the line of a log of no bytes.
+pub(crate) fn write_empty_line(report: &mut [u8], at: usize) -> usize
+    requires { ⌜ at ≤ 2 ^ 32 ⌝ }
+    ensures { λ r. ⌜ TextWritten (lent report) at emptyLine r (given report) × (r ≤ at + 6) ⌝ }
+{
+    write_word(report, at, b"empty\n")
 }

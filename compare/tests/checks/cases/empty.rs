@@ -30,13 +30,8 @@ const FOUR: &str = "000100 1111 000000001 00000";
 
 fn near() -> Vec<Case> {
     vec![
-        bit_case("a zero byte", "00000000", "log 1"),
         bit_case("two zero bytes", "00000000 00000000", "log 1"),
         bit_case("eight zero bytes", &"0".repeat(64), "log 1"),
-        bit_case("a line feed", "00001010", "log 27"),
-        bit_case("a space", "00100000", "log 27"),
-        bit_case("n 1 and no more", "000001 00", "log 27"),
-        bit_case("n 2, its trust bits and no more", "000010 11", "log 27"),
         // n 25, any trust bits, 121 epochs, leader 1, and the next leader is cut.
         Case {
             name: "the line itself".to_string(),
