@@ -2,7 +2,7 @@
 
 use skovarnek_compare::check;
 use skovarnek_compare::generate::rows;
-use std::fs;
+use std::fs::{self, File};
 use std::io::{ErrorKind, Write};
 use std::path::{Path, PathBuf};
 use std::process::{Command, Stdio};
@@ -76,6 +76,18 @@ fn no_bytes() {
     assert!(output.status.success());
     assert_eq!(output.stdout, b"empty\n");
     assert_eq!(output.stderr, b"");
+}
+
+/// What can't be read is not a log of no bytes: a folder gives no report, but a
+/// sentence on standard error.
+#[test]
+fn unreadable_input() {
+    let folder = File::open(at("examples")).expect("a folder");
+    let output = Command::new(at(PROGRAM)).stdin(folder).output();
+    let output = output.expect("the program ends");
+    assert_eq!(output.stdout, b"");
+    let wanted = b"check_log: standard input can't be read\n";
+    assert_eq!(output.stderr, wanted);
 }
 
 #[test]

@@ -4,6 +4,7 @@ ghost use Prim.Native.Nat.{_≤_, _<_};
 ghost use lib.ListN.{length, take, replicate};
 ghost use Rattle.words.specs.Lent.{lent, given};
 ghost use Rattle.report.specs.Reports.{reportOf, longestReport, givenLength, bufferAfter};
+use libc::STDERR_FILENO;
 use libc::STDIN_FILENO;
 use libc::STDOUT_FILENO;
 use report::check::LONGEST_REPORT;
@@ -29,6 +30,32 @@ fn report_buffer() -> [u8; REPORT_ROOM]
     [0; REPORT_ROOM]
 }
 
+// What standard input gave: how many bytes, and whether a read failed.
+struct Input {
+    size: usize,
+    failed: bool,
+}
+
+// Reads standard input to its end, or as far as there is room.
+fn read_input(log: &mut [u8]) -> Input
+    ensures { λ r. ⌜ (r .size ≤ length (given log)) × (length (given log) ≡ length (lent log)) ⌝ }
+{
+    let mut size = 0;
+    while size < log.len() {
+        let got = libc::read(STDIN_FILENO, &mut log[size..]);
+        let more = io::count(got, &log[size..]);
+        if more == 0 {
+            let failed = got < 0;
+            return Input { size, failed };
+        }
+        size += more;
+    }
+    Input {
+        size,
+        failed: false,
+    }
+}
+
 // Prints the first bytes of a buffer.
 fn print(report: &[u8], size: usize)
     requires { ⌜ size ≤ length (now report) ⌝ }
@@ -50,7 +77,11 @@ fn check_first(log: &[u8], size: usize, report: &mut [u8]) -> usize
 fn main() {
     let mut log = log_buffer();
     let mut report = report_buffer();
-    let size = io::read_full(STDIN_FILENO, &mut log);
-    let length = check_first(&log, size, &mut report);
+    let input = read_input(&mut log);
+    if input.failed {
+        io::write_all(STDERR_FILENO, b"check_log: standard input can't be read\n");
+        return;
+    }
+    let length = check_first(&log, input.size, &mut report);
     print(&report, length);
 }
