@@ -236,4 +236,5 @@ fn main() {
     print_refused_openings(&mut small);
     print_refused_steps(&mut small);
     print_read_back(&mut small);
+    print_log(b"", 1);
 }

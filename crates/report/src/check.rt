@@ -29,7 +29,7 @@ fn fitted(report: &mut [u8], size: usize) -> usize
     0
 }
 
-// Writes the report of a log.
+// Writes the report of a log: the word `empty`, the number of its fault, or its lines.
 fn write_report(report: &mut [u8], log: &[u8]) -> usize
     ensures { λ r. ⌜ TextWritten (lent report) 0 (reportOf (lent log)) r (given report) × (r ≤ longestReport) ⌝ }
 {
