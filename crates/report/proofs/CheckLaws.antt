@@ -12,25 +12,19 @@ use lib.Seq.{take-at}
 use Rattle.words.specs.Tests.{choose}
 use Rattle.packed_log.specs.Openings.{openingIn}
 use Rattle.replay.specs.Bodies.{bodyOf, faultOf}
-use Rattle.report.specs.Text.{TextWritten, logLine, emptyLine}
-use Rattle.report.specs.Reports.{runLines, reportOf, givenLength, bufferAfter}
+use Rattle.report.specs.Text.{TextWritten}
+use Rattle.report.specs.Reports.{runLines, faultLine, reportOf, givenLength, bufferAfter}
 use Rattle.report.proofs.TextLaws.{same-size, sets-front}
 
--- a log of no bytes has the line `empty` as its report
-pub report-empty : (log : List ℕ) → length log ≡ 0 → reportOf log ≡ emptyLine
+-- a log that is refused has one line as its report
+pub report-refused : (log : List ℕ) (fault : ℕ) → fault ≡ faultOf log → (fault ≡ 0 → ⊥) → reportOf log ≡ faultLine log fault
 unfolding reportOf choose
-report-empty log none = rw (eq-eqb (length log) 0 none)
+report-refused log fault same bad = rw (← same, ne-eqb fault 0 bad)
 
-module _ (log : List ℕ) (some : length log ≡ 0 → ⊥) where
-  -- any other that is refused has its number as its report
-  pub report-refused : (fault : ℕ) → fault ≡ faultOf log → (fault ≡ 0 → ⊥) → reportOf log ≡ logLine fault
-  unfolding reportOf choose
-  report-refused fault same bad = rw (ne-eqb (length log) 0 some, ← same, ne-eqb fault 0 bad)
-
-  -- and one that is not refused the lines of its steps and of the offices
-  pub report-run : faultOf log ≡ 0 → reportOf log ≡ runLines (openingIn log .register) 1 (bodyOf log .steps)
-  unfolding reportOf choose
-  report-run none = rw (ne-eqb (length log) 0 some, eq-eqb (faultOf log) 0 none)
+-- a log that is not refused has the lines of its steps and of the offices as its report
+pub report-run : (log : List ℕ) → faultOf log ≡ 0 → reportOf log ≡ runLines (openingIn log .register) 1 (bodyOf log .steps)
+unfolding reportOf choose
+report-run log none = rw (eq-eqb (faultOf log) 0 none)
 
 module _ (log before after : List ℕ) (size : ℕ) (written : TextWritten before 0 (reportOf log) size after) where
   -- the buffer holds the report, where it fits

@@ -14,30 +14,27 @@ use Rattle.replay.specs.Bodies.{faultOf}
 use Rattle.replay.specs.Claims.{caseOf, ReadsHaveNoFault}
 use Rattle.replay.proofs.Claims.{reads-have-no-fault}
 use Rattle.report.specs.Text.{emptyLine}
-use Rattle.report.specs.Reports.{reportOf}
+use Rattle.report.specs.Reports.{faultLine, reportOf}
 use Rattle.report.specs.Claims.{RunsAreReported, NoLogYet}
-use Rattle.report.proofs.CheckLaws.{report-empty, report-run}
+use Rattle.report.proofs.CheckLaws.{report-run}
 use Rattle.report.proofs.EmptyLaws.{other-report}
+
+-- the report of a log that reads is that of its run
+pub runs-are-reported : RunsAreReported
+unfolding RunsAreReported ReadsHaveNoFault
+runs-are-reported log held = report-run log (reads-have-no-fault log (caseOf (held .run)) (held .reads)) ∙ rw (held .opens, held .steps)
 
 -- the opening of a log of no bytes is cut
 opening-cut : openingIn [] .refusal ≡ 27
 unfolding openingIn openedBy choose first
 opening-cut = refl
 
--- a log without a fault has bytes
-has-bytes : (log : List ℕ) → faultOf log ≡ 0 → length log ≡ 0 → ⊥
-unfolding faultOf choose
-has-bytes [] none long = omega (arith, rw opening-cut at none)
-has-bytes (byte ∷ more) none long = omega arith
+-- so the log has a fault, and with no bytes the line `empty`
+empty-reported : reportOf [] ≡ emptyLine
+unfolding reportOf faultLine faultOf choose
+empty-reported = rw opening-cut
 
--- the report of a log that reads is that of its run
-pub runs-are-reported : RunsAreReported
-unfolding RunsAreReported ReadsHaveNoFault
-runs-are-reported log held =
-    let none : faultOf log ≡ 0 = reads-have-no-fault log (caseOf (held .run)) (held .reads) in
-    report-run log (has-bytes log none) none ∙ rw (held .opens, held .steps)
-
--- only a log of no bytes gives the line `empty`
+-- no other log has it
 empty-alone : (log : List ℕ) → reportOf log ≡ emptyLine → log ≡ []
 unfolding emptyLine
 empty-alone [] same = refl
@@ -49,4 +46,4 @@ unfolding itemAt withFields skippedAt first choose
 item-cut log p short past = rw (le-ltb 65536 (length log) short, lt-ltb (left log p) 4 (omega arith))
 
 pub no-log-yet : NoLogYet
-no-log-yet = record { reported = report-empty [] refl; alone = empty-alone; opening = opening-cut; item = item-cut }
+no-log-yet = record { reported = empty-reported; alone = empty-alone; opening = opening-cut; item = item-cut }

@@ -14,7 +14,7 @@ use Rattle.register.specs.Books.{bookOf}
 use Rattle.register.specs.Tables.{trusted}
 use Rattle.replay.specs.Bodies.{faultOf}
 use Rattle.report.specs.Text.{digitsBy, decimal, numberThen, numbers, stepLine, officeLine, logLine}
-use Rattle.report.specs.Reports.{stepLines, officeText, officeLines, runLines, reportOf}
+use Rattle.report.specs.Reports.{stepLines, officeText, officeLines, runLines, faultLine, reportOf}
 
 -- the text does not begin with the letter e
 abbrev Other : List ℕ → Type 0
@@ -64,8 +64,8 @@ other-offices r (suc q) =
 
 -- so the report of a log that has bytes does not
 pub other-report : (log : List ℕ) → (length log ≡ 0 → ⊥) → Other (reportOf log)
-unfolding reportOf runLines logLine choose
+unfolding reportOf runLines faultLine logLine choose
 other-report log some =
-    rw (ne-eqb (length log) 0 some) (other-choice (eqb (faultOf log) 0) _ _
+    other-choice (eqb (faultOf log) 0) _ _
     (λ h. other-then (stepLines 1 _) _ (other-steps 1 _) (other-offices _ 32))
-    (λ e. omega arith))
+    (rw (ne-eqb (length log) 0 some) (λ e. omega arith))

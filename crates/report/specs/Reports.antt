@@ -39,12 +39,13 @@ officeLines r (suc q) = officeLines r q ++ officeText r q
 unfoldable pub runLines : Register → (place : ℕ) → List Step → List ℕ
 runLines r place steps = stepLines place (answers r steps) ++ officeLines (afterSteps r steps) 32
 
--- the report: a log of no bytes gives the word `empty` alone; another that does not read, its number alone; one that reads, the lines of its steps and of
--- the offices
+-- the one line of a log that does not read: the word `empty` where it has no bytes, else the number that it is refused with
+unfoldable pub faultLine : (log : List ℕ) → (fault : ℕ) → List ℕ
+faultLine log fault = choose (eqb (length log) 0) emptyLine (logLine fault)
+
+-- the report: a log that does not read, as one of no bytes, gives one line alone
 unfoldable pub reportOf : (log : List ℕ) → List ℕ
-reportOf log =
-    choose (eqb (length log) 0) emptyLine
-    (choose (eqb (faultOf log) 0) (runLines (openingIn log .register) 1 (bodyOf log .steps)) (logLine (faultOf log)))
+reportOf log = choose (eqb (faultOf log) 0) (runLines (openingIn log .register) 1 (bodyOf log .steps)) (faultLine log (faultOf log))
 
 -- No report is longer: the shortest step takes four bits of a log, and there are at most 32 offices.
 abbrev pub longestReport : ℕ

@@ -6,7 +6,7 @@ ghost use lib.ListN.{length, replicate};
 ghost use Rattle.words.specs.Lent.{lent, given};
 ghost use Rattle.words.specs.Tests.{choose};
 ghost use Rattle.report.specs.Text.{TextWritten};
-ghost use Rattle.report.specs.Reports.{reportOf, longestReport, givenLength, bufferAfter};
+ghost use Rattle.report.specs.Reports.{faultLine, reportOf, longestReport, givenLength, bufferAfter};
 use crate::run::write_run;
 use crate::text::clear;
 use crate::text::write_empty_line;
@@ -29,17 +29,24 @@ fn fitted(report: &mut [u8], size: usize) -> usize
     0
 }
 
-// Writes the report of a log: the word `empty`, the number of its fault, or its lines.
-fn write_report(report: &mut [u8], log: &[u8]) -> usize
-    ensures { λ r. ⌜ TextWritten (lent report) 0 (reportOf (lent log)) r (given report) × (r ≤ longestReport) ⌝ }
+// Writes the one line of a log that does not read: the word `empty` where it has no bytes, else its number.
+fn write_fault_line(report: &mut [u8], log: &[u8], fault: u8) -> usize
+    ensures { λ r. ⌜ TextWritten (lent report) 0 (faultLine (lent log) fault) r (given report) × (r ≤ longestReport) ⌝ }
 {
     if log.len() == 0 {
         return write_empty_line(report, 0);
     }
+    write_log_line(report, 0, fault)
+}
+
+// Writes the report of a log.
+fn write_report(report: &mut [u8], log: &[u8]) -> usize
+    ensures { λ r. ⌜ TextWritten (lent report) 0 (reportOf (lent log)) r (given report) × (r ≤ longestReport) ⌝ }
+{
     let opening = read_opening(log);
     let fault = fault_of(log, opening.refusal, opening.next);
     if fault != 0 {
-        return write_log_line(report, 0, fault);
+        return write_fault_line(report, log, fault);
     }
     let register = opening.register;
     write_run(report, log, opening.next, register)
