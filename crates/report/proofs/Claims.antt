@@ -45,5 +45,6 @@ item-cut : (log : List ℕ) (p : ℕ) → length log ≤ 65536 → 8 * length lo
 unfolding itemAt withFields skippedAt first choose
 item-cut log p short past = rw (le-ltb 65536 (length log) short, lt-ltb (left log p) 4 (omega arith))
 
+-- the claim of a log of no bytes, from these four
 pub no-log-yet : NoLogYet
 no-log-yet = record { reported = empty-reported; alone = empty-alone; opening = opening-cut; item = item-cut }
