@@ -38,7 +38,7 @@ empty-reported = rw opening-cut
 empty-alone : (log : List ℕ) → reportOf log ≡ emptyLine → log ≡ []
 unfolding emptyLine
 empty-alone [] same = refl
-empty-alone (byte ∷ more) same = absurd (other-report (byte ∷ more) (λ none. omega arith) (ap (λ (text : List ℕ). getD text 0 0) same))
+empty-alone (byte ∷ more) same = absurd (other-report (byte ∷ more) (λ none. omega arith) .unlike (ap (λ (text : List ℕ). getD text 0 0) same))
 
 -- an item where no bits are left is cut
 item-cut : (log : List ℕ) (p : ℕ) → length log ≤ 65536 → 8 * length log ≤ p → itemAt log p ≡ read (Item.Refused 27) p
