@@ -7,8 +7,9 @@ use native.Mathlib.Omega.{arith}
 use native.Mathlib.Decide.{decLt}
 use Rattle.words.specs.Sums.{tally}
 use Rattle.words.proofs.Tests.{clash}
+use Rattle.register.specs.declared.table.Content.{Content}
 use Rattle.register.specs.declared.book.Book.{Book}
-use Rattle.register.specs.Tables.{Content, trusted, acted, parentOf, epochOf, contentOf, signerOf, aboutOf, finalOf}
+use Rattle.register.specs.Tables.{trusted, acted, parentOf, epochOf, contentOf, signerOf, aboutOf, finalOf}
 use Rattle.register.specs.Chains.{chainLength, chainNotarised}
 use Rattle.register.proofs.Accepted.{trusted-below}
 use Rattle.register.proofs.Chains.{parent-le}

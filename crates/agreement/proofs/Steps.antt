@@ -20,11 +20,12 @@ use Rattle.register.specs.declared.sorts.Block.{Block}
 use Rattle.register.specs.declared.sorts.Message.{Message}
 use Rattle.register.specs.declared.sorts.Kind.{Kind}
 use Rattle.register.specs.declared.step.Step.{Step}
+use Rattle.register.specs.declared.table.Content.{Content}
 use Rattle.register.specs.declared.table.Header.{Header}
 use Rattle.register.specs.declared.table.OfficeState.{OfficeState}
 use Rattle.register.specs.declared.book.Book.{Book}
 use Rattle.register.specs.Books.{block}
-use Rattle.register.specs.Tables.{Content, trusted, acted, parentOf, epochOf, named, signerOf, aboutOf, finalOf, isVote}
+use Rattle.register.specs.Tables.{trusted, acted, parentOf, epochOf, named, signerOf, aboutOf, finalOf, isVote}
 use Rattle.register.specs.Views.{says}
 use Rattle.register.specs.Chains.{chain, chainLength, longest}
 use Rattle.register.specs.Refusals.{inHistory}

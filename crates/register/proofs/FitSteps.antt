@@ -8,9 +8,9 @@ use lib.ListN.{length, getD, set, length-set}
 use Rattle.words.specs.Tests.{choose}
 use Rattle.words.specs.Digits.{withMember}
 use Rattle.words.specs.Refusals.{first}
-use Rattle.register.specs.Types.{Office, Epoch, Block, Message, Step, Header, OfficeState, Register, Book}
+use Rattle.register.specs.Types.{Office, Epoch, Block, Message, Step, Header, Content, OfficeState, Register, Book}
 use Rattle.register.specs.Books.{block, epoch, blocksOf, changed, bookOf}
-use Rattle.register.specs.Tables.{Content, trusted}
+use Rattle.register.specs.Tables.{trusted}
 use Rattle.register.specs.Fitness.{fit}
 use Rattle.register.specs.Refusals.{blocksFull}
 use Rattle.register.specs.Effects.{withBlock, withNamed, withSent, withMoved, withActed, withState, withNextEpoch}

@@ -11,9 +11,9 @@ use lib.Seq.{getD-set-same, getD-set-other}
 use Rattle.words.specs.Tests.{choose}
 use Rattle.words.specs.Digits.{digit, withMember, withStage}
 use Rattle.words.proofs.Digits.{stage-put}
-use Rattle.register.specs.Types.{Epoch, Step, Header, OfficeState, Book}
+use Rattle.register.specs.Types.{Epoch, Step, Header, Content, OfficeState, Book}
 use Rattle.register.specs.Books.{epoch, blocksOf, messagesOf, changed}
-use Rattle.register.specs.Tables.{Content, trusted}
+use Rattle.register.specs.Tables.{trusted}
 use Rattle.register.specs.Views.{inView, stage}
 use Rattle.register.specs.Effects.{withBlock, withNamed, withSent, withMoved, withActed, withState, withNextEpoch}
 use Rattle.register.specs.Steps.{ruleOf}

@@ -14,9 +14,9 @@ use Rattle.words.proofs.Tests.{both-left, both-right, both-make, either-cases, 
 use Rattle.words.proofs.Sums.{weigh-more}
 use Rattle.tables.specs.Blocks.{trustedIn, madeIn, parentIn, epochIn}
 use Rattle.tables.specs.Messages.{saysIn}
-use Rattle.register.specs.Types.{Header, Book}
+use Rattle.register.specs.Types.{Header, Content, Book}
 use Rattle.register.specs.Limits.{mostOffices}
-use Rattle.register.specs.Tables.{Content, trusted, made, headerOf, parentOf, epochOf, contentOf}
+use Rattle.register.specs.Tables.{trusted, made, headerOf, parentOf, epochOf, contentOf}
 use Rattle.register.specs.Views.{inView, says, signed, signs, signers, notarised}
 use Rattle.register.specs.Chains.{chain, chainLength, chainNotarised}
 use Rattle.register.proofs.Chains.{parent-le, on-chain-le, chain-kept}

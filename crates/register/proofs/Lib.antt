@@ -18,6 +18,7 @@ pub mod Growing
 pub mod Settling
 pub mod Searching
 pub mod Signing
+pub mod Telling
 pub mod Answering
 pub mod Writing
 pub mod Carrying

@@ -5,9 +5,9 @@ use mathlib.Core.Bool.{false}
 use native.Mathlib.Omega.{arith}
 use lib.ListN.{getD}
 use lib.Seq.{getD-set-same, getD-set-other}
-use Rattle.register.specs.Types.{Header, Book}
+use Rattle.register.specs.Types.{Header, Content, Book}
 use Rattle.register.specs.Books.{office, epoch, block}
-use Rattle.register.specs.Tables.{Content, headerOf, contentOf, signerOf, aboutOf, kindOf, isVote}
+use Rattle.register.specs.Tables.{headerOf, contentOf, signerOf, aboutOf, kindOf, isVote}
 use Rattle.register.specs.Promises.{Sizes}
 use Rattle.register.specs.Effects.{withBlock, withSent}
 

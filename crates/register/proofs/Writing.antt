@@ -7,9 +7,9 @@ use lib.Dec.{leb}
 use lib.ListN.{getD, set}
 use lib.Seq.{set-getD, set-set, set-comm}
 use Rattle.words.specs.Tests.{choose}
-use Rattle.register.specs.Types.{Office, Kind, Header, OfficeState, Book, BlockEntry, Change}
+use Rattle.register.specs.Types.{Office, Kind, Header, Content, OfficeState, Book, BlockEntry, Change}
 use Rattle.register.specs.Books.{Blocks, Messages, block, epoch, blocksOf, messagesOf, changed}
-use Rattle.register.specs.Tables.{Content, stateOf, named, isVote}
+use Rattle.register.specs.Tables.{stateOf, named, isVote}
 use Rattle.register.specs.Effects.{withBlock, withNamed, sentStage, sentPlace, withSent, withMoved, withActed, withState, withNextEpoch}
 use Rattle.register.specs.Changes.{unchangedOf, change, timing, acting, naming, sending, moving, holding, movedPlace}
 use Rattle.register.proofs.Naming.{next-block}

@@ -5,9 +5,9 @@ use lib.ListN.{getD, set}
 use Rattle.words.specs.Tests.{choose}
 use Rattle.words.specs.Digits.{fill, withMember, withStage}
 use Rattle.tables.specs.Messages.{absent, transit, view}
-use Rattle.register.specs.Types.{Header, OfficeState, Book}
+use Rattle.register.specs.Types.{Header, Content, OfficeState, Book}
 use Rattle.register.specs.Books.{epoch, block, blocksOf, messagesOf, changed}
-use Rattle.register.specs.Tables.{Content, trusted, named, isVote}
+use Rattle.register.specs.Tables.{trusted, named, isVote}
 
 -- the next block is made so
 unfoldable pub withBlock : Book → Header → Book

@@ -4,8 +4,10 @@ pub use Rattle.register.specs.declared.sorts.Epoch.{Epoch}
 pub use Rattle.register.specs.declared.sorts.Block.{Block}
 pub use Rattle.register.specs.declared.sorts.Message.{Message}
 pub use Rattle.register.specs.declared.sorts.Kind.{Kind}
+pub use Rattle.register.specs.declared.sorts.Stage.{Stage}
 pub use Rattle.register.specs.declared.step.Step.{Step}
 pub use Rattle.register.specs.declared.table.Header.{Header}
+pub use Rattle.register.specs.declared.table.Content.{Content}
 pub use Rattle.register.specs.declared.table.OfficeState.{OfficeState}
 pub use Rattle.register.specs.declared.table.Register.{Register}
 pub use Rattle.register.specs.declared.table.Opened.{Opened}

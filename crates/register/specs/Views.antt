@@ -8,13 +8,18 @@ use Rattle.words.specs.Sums.{tally}
 use Rattle.words.specs.Digits.{digit, setOf}
 use Rattle.quorum.specs.Enough.{enough}
 use Rattle.tables.specs.Messages.{absent, transit, inbox, view, saysIn}
-use Rattle.register.specs.Types.{Notarised, Book}
+use Rattle.register.specs.Types.{Stage, Notarised, Book}
 use Rattle.register.specs.Limits.{mostOffices}
 use Rattle.register.specs.Tables.{trusted}
 
 -- the stage of message m for office q. An untrusted office keeps nothing, and what was not sent is nowhere.
 unfoldable pub stage : Book → ℕ → ℕ → ℕ
 stage r q m = choose (both (trusted r q) (ltb m (r .count))) (digit 4 (getD (r .places) m 0) q) absent
+
+-- a stage by its number
+unfoldable pub stageNumbered : ℕ → Stage
+stageNumbered k =
+    choose (eqb k transit) Stage.Transit (choose (eqb k inbox) Stage.Inbox (choose (eqb k view) Stage.View Stage.Absent))
 
 abbrev pub inTransit : Book → ℕ → ℕ → Bool
 inTransit r q m = eqb (stage r q m) transit

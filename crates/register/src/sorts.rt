@@ -1,4 +1,4 @@
-// The four sorts of number, of which none passes for another, and the kinds of message.
+// The four sorts of number, of which none passes for another, the kinds of message, and the stages that a message goes through.
 
 // An office, from 0 up.
 pub struct Office(pub u8);
@@ -15,4 +15,12 @@ pub struct Message(pub u16);
 pub enum Kind {
     Proposal,
     Vote,
+}
+
+// Where a message is for an office.
+pub enum Stage {
+    Absent,
+    Transit,
+    Inbox,
+    View,
 }

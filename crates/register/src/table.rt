@@ -5,6 +5,7 @@ use crate::limits::MESSAGES;
 use crate::limits::OFFICES;
 use crate::sorts::Block;
 use crate::sorts::Epoch;
+use crate::sorts::Kind;
 use crate::sorts::Office;
 
 // What a block is made of.
@@ -12,6 +13,13 @@ pub struct Header {
     pub parent: Block,
     pub epoch: Epoch,
     pub payload: u16,
+}
+
+// What a message says.
+pub struct Content {
+    pub kind: Kind,
+    pub signer: Office,
+    pub about: Block,
 }
 
 // What one office holds beside its view and its mark: its final block.

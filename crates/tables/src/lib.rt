@@ -12,6 +12,7 @@ pub use chain::is_shorter;
 pub use chain::length_of;
 pub use scan::epoch_at;
 pub use scan::in_history;
+pub use scan::is_made;
 pub use scan::is_signed;
 pub use scan::name_block;
 pub use scan::parent_at;

@@ -26,7 +26,7 @@ pub fn trusted_at(n: u8, trust: u32, q: u8) -> bool
 }
 
 // Block b has been made and is not genesis.
-fn is_made(last: u8, b: u8) -> bool
+pub fn is_made(last: u8, b: u8) -> bool
     ensures { λ r. ⌜ r ≡ madeIn last b ⌝ }
 {
     (0 < b) & (b <= last)
