@@ -19,6 +19,7 @@ pub mod Settling
 pub mod Searching
 pub mod Signing
 pub mod Telling
+pub mod Longest
 pub mod Answering
 pub mod Writing
 pub mod Carrying

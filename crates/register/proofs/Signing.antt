@@ -63,7 +63,7 @@ module _ (r : Book) (q : ℕ) where
   unsaid s b none = any-fails _ (r .count) (λ m l. rw (none m l, both-none))
 
   -- an office that is not trusted has no view
-  unseen : trusted r q ≡ false → (s b : ℕ) → signed r q s b ≡ false
+  pub unseen : trusted r q ≡ false → (s b : ℕ) → signed r q s b ≡ false
   unfolding signed stage choose both
   unseen t s b = any-fails _ (r .count) (λ m l. rw t)
 

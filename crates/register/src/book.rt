@@ -94,7 +94,7 @@ pub(crate) fn parent_numbers(typed: [Block; BLOCKS]) -> Parents
 }
 
 // The numbers of the blocks' epochs.
-fn epoch_numbers(typed: [Epoch; BLOCKS]) -> Epochs
+pub(crate) fn epoch_numbers(typed: [Epoch; BLOCKS]) -> Epochs
     ensures { λ r. ⌜ (r ≡ map epochNumber typed) × (length r ≡ blockEntries) ⌝ }
 {
     let mut numbers = [0u16; BLOCKS];

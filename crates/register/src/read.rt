@@ -1,12 +1,15 @@
 // What a register holds, for whoever reads it.
 ghost use mathlib.Core.Path.{_≡_};
 ghost use mathlib.Core.List.{map};
+ghost use Rattle.words.specs.Tests.{both};
 ghost use Rattle.tables.specs.Searches.{viewIn};
 ghost use Rattle.register.specs.Books.{block, officeNumber, blockNumber, bookOf};
 ghost use Rattle.register.specs.Tables.{trusted, finalFor};
 ghost use Rattle.register.specs.Views.{signerSet, notarisedTest};
-ghost use Rattle.register.specs.Chains.{lengthOf};
+ghost use Rattle.register.specs.Chains.{longest, lengthOf};
+ghost use Rattle.register.specs.Fitness.{fit};
 use crate::book::about_numbers;
+use crate::book::epoch_numbers;
 use crate::book::parent_numbers;
 use crate::book::signer_numbers;
 use crate::columns::Places;
@@ -106,5 +109,27 @@ impl Register {
             holds: count.enough,
             signers: count.signers,
         }
+    }
+
+    // The chain of a block is longest in an office's view: it is notarised there, and no notarised chain of that view is longer. In the view of an
+    // office that is not trusted genesis alone is. Of a register that is not fit no chain is.
+    pub fn is_longest(self, office: Office, b: Block) -> bool
+        ensures { λ r. ⌜ r ≡ both (fit (bookOf self)) (longest (bookOf self) (office .0) (b .0)) ⌝ }
+    {
+        if !self.is_fit() {
+            return false;
+        }
+        if !tables::trusted_at(self.n, self.trust, office.0) {
+            return b.0 == 0;
+        }
+        let places = self.places;
+        let signers = self.signers;
+        let about = self.about;
+        let view = view_in(places, signers, about, self.count, office);
+        let typed_parents = self.parents;
+        let parents = parent_numbers(typed_parents);
+        let typed_epochs = self.epochs;
+        let epochs = epoch_numbers(typed_epochs);
+        tables::is_longest(&view, &parents, &epochs, self.last.0, self.n, b.0)
     }
 }
