@@ -1,12 +1,19 @@
-// Checks a log: standard input to standard output.
+// Checks a log, from the file that its argument names or from standard input, and prints the report.
+mod input;
+mod output;
+
 ghost use mathlib.Core.Path.{_≡_};
 ghost use Prim.Native.Nat.{_≤_, _<_};
 ghost use lib.ListN.{length, take, replicate};
 ghost use Rattle.words.specs.Lent.{lent, given};
 ghost use Rattle.report.specs.Reports.{reportOf, longestReport, givenLength, bufferAfter};
-use libc::STDERR_FILENO;
+use input::asks_for_usage;
+use input::read_input;
 use libc::STDIN_FILENO;
-use libc::STDOUT_FILENO;
+use output::complain;
+use output::complain_of_usage;
+use output::print_report;
+use output::print_usage;
 use report::check::LONGEST_REPORT;
 use report::check::check;
 
@@ -30,39 +37,6 @@ fn report_buffer() -> [u8; REPORT_ROOM]
     [0; REPORT_ROOM]
 }
 
-// What standard input gave: how many bytes, and whether a read failed.
-struct Input {
-    size: usize,
-    failed: bool,
-}
-
-// Reads standard input to its end, or as far as there is room.
-fn read_input(log: &mut [u8]) -> Input
-    ensures { λ r. ⌜ (r .size ≤ length (given log)) × (length (given log) ≡ length (lent log)) ⌝ }
-{
-    let mut size = 0;
-    while size < log.len() {
-        let got = libc::read(STDIN_FILENO, &mut log[size..]);
-        let more = io::count(got, &log[size..]);
-        if more == 0 {
-            let failed = got < 0;
-            return Input { size, failed };
-        }
-        size += more;
-    }
-    Input {
-        size,
-        failed: false,
-    }
-}
-
-// Prints the first bytes of a buffer.
-fn print(report: &[u8], size: usize)
-    requires { ⌜ size ≤ length (now report) ⌝ }
-{
-    io::write_all(STDOUT_FILENO, &report[..size]);
-}
-
 // Checks the first bytes of a buffer that has room for more than a log may have. The report fits, and it is what stands in front in its buffer then.
 fn check_first(log: &[u8], size: usize, report: &mut [u8]) -> usize
     requires { ⌜ (size ≤ length (now log)) × (65536 < length (now log)) × (longestReport ≤ length (now report)) ⌝ }
@@ -74,14 +48,57 @@ fn check_first(log: &[u8], size: usize, report: &mut [u8]) -> usize
     check(&log[..size], report)
 }
 
-fn main() {
+// Checks the log in an open file and prints its report. A file that can't be read gives no report, but a sentence that names it.
+fn check_open(file: i32, name: &[u8]) {
     let mut log = log_buffer();
     let mut report = report_buffer();
-    let input = read_input(&mut log);
+    let input = read_input(file, &mut log);
     if input.failed {
-        io::write_all(STDERR_FILENO, b"check_log: standard input can't be read\n");
+        complain(name, b" can't be read\n");
         return;
     }
     let length = check_first(&log, input.size, &mut report);
-    print(&report, length);
+    print_report(&report, length);
+}
+
+// Checks the log in the file of that name.
+fn check_named(name: &[u8]) {
+    let file = os::open_read(name);
+    if file < 0 {
+        complain(name, b" can't be opened\n");
+        return;
+    }
+    check_open(file, name);
+    libc::close(file);
+}
+
+// Does what the one argument asks for: the line of use, or the check of the file that it names.
+fn take_argument() {
+    let mut room = io::buffer();
+    let length = os::arg(1, &mut room);
+    if os::errno() != 0 {
+        complain(b"the file's name", b" is too long\n");
+        return;
+    }
+    if length == 0 {
+        complain(b"the file's name", b" is empty\n");
+        return;
+    }
+    let argument = &room[..length];
+    if asks_for_usage(argument) {
+        print_usage();
+    } else {
+        check_named(argument);
+    }
+}
+
+fn main() {
+    let words = os::arg_count();
+    if words > 2 {
+        complain_of_usage();
+    } else if words == 2 {
+        take_argument();
+    } else {
+        check_open(STDIN_FILENO, b"standard input");
+    }
 }

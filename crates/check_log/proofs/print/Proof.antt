@@ -1,9 +1,0 @@
--- `check_log::print`: the part that is lent has as many bytes as are asked for.
-use borrow.Author.Needs.{needs}
-use mathlib.Core.Path.{sym}
-use lib.Seq.{length-take-le}
-use Rattle.check_log.proofs.print.Statement.{statement}
-use Rattle.check_log.proofs.print.Tie as tie
-
-pub print-spec : {M : Type 1} → statement M
-print-spec = tie.close (tie.spec (λ c. sym (length-take-le _ _ (c .before .before .pre))) (λ c κs. search needs) (λ c. search needs))
