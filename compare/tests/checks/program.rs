@@ -1,11 +1,18 @@
-//! The program as it is called, against this checker.
+//! The program as it is called, against this checker: here the logs that it
+//! reads from standard input, below its arguments, what it can't read, what it
+//! can't write, and its stack.
+
+mod arguments;
+mod reading;
+mod stack;
+mod writing;
 
 use skovarnek_compare::check;
 use skovarnek_compare::generate::rows;
-use std::fs::{self, File};
+use std::fs;
 use std::io::{ErrorKind, Write};
 use std::path::{Path, PathBuf};
-use std::process::{Command, Stdio};
+use std::process::{Child, ChildStdin, Command, Output, Stdio};
 
 /// The program, as the repository builds it.
 const PROGRAM: &str = "target/bin/check_log";
@@ -18,24 +25,93 @@ fn at(path: &str) -> PathBuf {
     Path::new(env!("CARGO_MANIFEST_DIR")).join("..").join(path)
 }
 
-/// What the program prints of a log. It stops reading one byte after the
-/// longest log, so that the pipe may be closed before all is written.
-fn printed(log: &[u8]) -> Vec<u8> {
-    let program = at(PROGRAM);
-    let mut child = Command::new(&program)
-        .stdin(Stdio::piped())
-        .stdout(Stdio::piped())
-        .spawn()
-        .unwrap_or_else(|fault| panic!("{}: {fault}", program.display()));
-    let mut stdin = child.stdin.take().expect("a pipe");
+/// A call of the program, with no input and its output kept.
+fn program() -> Command {
+    kept(Command::new(at(PROGRAM)))
+}
+
+/// A call of the program by a shell that runs these words first. They end in
+/// `exec "$0"`, with `"$@"` where the program gets arguments.
+fn by_shell(words: &str) -> Command {
+    let mut shell = Command::new("sh");
+    shell.args(["-c", words]).arg(at(PROGRAM));
+    kept(shell)
+}
+
+fn kept(mut call: Command) -> Command {
+    call.stdin(Stdio::null());
+    call.stdout(Stdio::piped()).stderr(Stdio::piped());
+    call
+}
+
+fn ended(mut call: Command) -> Output {
+    let output = call.output();
+    output.unwrap_or_else(|fault| panic!("{call:?}: {fault}"))
+}
+
+/// The program, begun with a pipe as its input.
+fn begun(mut call: Command) -> (Child, ChildStdin) {
+    let child = call.stdin(Stdio::piped()).spawn();
+    let mut child = child.unwrap_or_else(|fault| panic!("{call:?}: {fault}"));
+    let stdin = child.stdin.take().expect("a pipe");
+    (child, stdin)
+}
+
+/// Gives the program a log. It stops reading one byte after the longest log, so
+/// that the pipe may be closed before all is written.
+fn feed(mut stdin: ChildStdin, log: &[u8]) {
     match stdin.write_all(log) {
         Err(fault) if fault.kind() == ErrorKind::BrokenPipe => {}
         written => written.expect("the program reads"),
     }
-    drop(stdin);
+}
+
+/// What the program prints of a log.
+fn printed(log: &[u8]) -> Vec<u8> {
+    let (child, stdin) = begun(program());
+    feed(stdin, log);
     let output = child.wait_with_output().expect("the program ends");
-    assert!(output.status.success());
+    assert_says(&output, "");
     output.stdout
+}
+
+/// The status is 0, whatever happened, and standard error has just this.
+fn assert_says(output: &Output, sentence: &str) {
+    assert!(output.status.success(), "{output:?}");
+    assert_eq!(String::from_utf8_lossy(&output.stderr), sentence);
+}
+
+/// There is no verdict, but just this on standard error.
+fn assert_only_says(output: &Output, sentence: &str) {
+    assert_says(output, sentence);
+    assert_eq!(output.stdout, b"");
+}
+
+fn sample(name: &str) -> PathBuf {
+    at("examples/sample-logs").join(name)
+}
+
+/// The sample logs, each with its path.
+fn samples() -> Vec<(PathBuf, Vec<u8>)> {
+    let files = fs::read_dir(sample("")).expect("a folder");
+    let paths = files.map(|file| file.expect("a file").path());
+    let logs = paths.filter(|path| path.extension().is_some_and(|end| end == "log"));
+    let logs: Vec<_> = logs
+        .map(|path| (path.clone(), fs::read(path).expect("a log")))
+        .collect();
+    assert!(!logs.is_empty());
+    logs
+}
+
+/// The name of the row with the longest report.
+const LONGEST_ROW: &str = "131,065 advances";
+
+/// That row's log, and its report.
+fn longest() -> (Vec<u8>, Vec<u8>) {
+    let row = rows().into_iter().find(|row| row.name == LONGEST_ROW);
+    let log = row.expect("a row").log;
+    let report = check(&log);
+    (log, report)
 }
 
 fn assert_prints(name: &str, log: &[u8]) {
@@ -47,14 +123,7 @@ fn assert_prints(name: &str, log: &[u8]) {
 
 #[test]
 fn sample_logs() {
-    let files = fs::read_dir(at("examples/sample-logs")).expect("a folder");
-    let paths = files.map(|file| file.expect("a file").path());
-    let logs: Vec<PathBuf> = paths
-        .filter(|path| path.extension().is_some_and(|end| end == "log"))
-        .collect();
-    assert!(!logs.is_empty());
-    for path in logs {
-        let log = fs::read(&path).expect("a log");
+    for (path, log) in samples() {
         assert_prints(&path.display().to_string(), &log);
     }
 }
@@ -70,24 +139,9 @@ fn cases() {
 #[test]
 fn no_bytes() {
     assert_eq!(printed(b""), b"empty\n");
-    let mut program = Command::new(at(PROGRAM));
-    let output = program.stdin(Stdio::null()).output();
-    let output = output.expect("the program ends");
-    assert!(output.status.success());
+    let output = ended(program());
+    assert_says(&output, "");
     assert_eq!(output.stdout, b"empty\n");
-    assert_eq!(output.stderr, b"");
-}
-
-/// What can't be read is not a log of no bytes: a folder gives no report, but a
-/// sentence on standard error.
-#[test]
-fn unreadable_input() {
-    let folder = File::open(at("examples")).expect("a folder");
-    let output = Command::new(at(PROGRAM)).stdin(folder).output();
-    let output = output.expect("the program ends");
-    assert_eq!(output.stdout, b"");
-    let wanted = b"check_log: standard input can't be read\n";
-    assert_eq!(output.stderr, wanted);
 }
 
 #[test]
@@ -95,7 +149,7 @@ fn longest_report() {
     let logs = rows();
     let longest = logs.iter().max_by_key(|row| check(&row.log).len());
     let longest = longest.expect("a row");
-    assert_eq!(longest.name, "131,065 advances");
+    assert_eq!(longest.name, LONGEST_ROW);
     assert_prints(longest.name, &longest.log);
 }
 
