@@ -92,6 +92,7 @@ fn take_argument() {
     }
 }
 
+// With no argument the log is on standard input; one argument is taken, and more are too many.
 fn main() {
     let words = os::arg_count();
     if words > 2 {

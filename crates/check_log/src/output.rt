@@ -4,7 +4,7 @@ ghost use lib.ListN.{length};
 use libc::STDERR_FILENO;
 use libc::STDOUT_FILENO;
 
-// Says on standard error what can't be done with what.
+// Says a sentence on standard error: whatever it is about, and what is wrong with it. Where that can't be written, nothing is left to say it with.
 pub fn complain(what: &[u8], fault: &[u8]) {
     io::write_all(STDERR_FILENO, b"check_log: ");
     io::write_all(STDERR_FILENO, what);
@@ -31,7 +31,7 @@ pub fn complain_of_usage() {
     write_usage(STDERR_FILENO);
 }
 
-// Prints the report that stands in front in a buffer.
+// Prints the report that stands in front in a buffer. A write that takes only a part is continued; where one fails, that is said.
 pub fn print_report(report: &[u8], size: usize)
     requires { ⌜ size ≤ length (now report) ⌝ }
 {
