@@ -2,7 +2,7 @@
 
 #![allow(unsafe_code)]
 
-use crate::packed::LONGEST_LOG;
+use crate::report::report_bound;
 
 unsafe extern "C" {
     fn skovarnek_check(log: *const u8, log_len: usize, report: *mut u8, report_len: usize)
@@ -49,18 +49,11 @@ pub fn check_lent(log: LentLog, buffer: LentBuffer) -> usize {
     length
 }
 
-/// The report on a log.
+/// The report on a log, written into a buffer of the header's bound.
 pub fn check(log: &[u8]) -> Vec<u8> {
-    let mut report = vec![0; room_for_report(log)];
+    let mut report = vec![0; report_bound(log.len())];
     let length = check_into(log, &mut report);
-    assert!(length > 0, "the report is longer than any can be");
+    assert!(length > 0, "the report is longer than its bound");
     report.truncate(length);
     report
-}
-
-/// Enough bytes for the report on a log: a step takes 4 bits or more, its line
-/// `131072 26 1023` or less, an office's line `office 31 255 255 32` or less.
-pub fn room_for_report(log: &[u8]) -> usize {
-    let most_steps = 2 * log.len().min(LONGEST_LOG);
-    most_steps * "131072 26 1023\n".len() + 32 * "office 31 255 255 32\n".len()
 }

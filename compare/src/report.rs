@@ -1,11 +1,22 @@
 //! The whole check: log bytes in, report bytes out.
 
-use crate::packed::{Log, read_log};
+use crate::packed::{LONGEST_LOG, Log, read_log};
 use crate::refusal::Refusal;
 use crate::register::{Answer, Office, Register};
 
 /// The only line on a log of no bytes: whoever sends it has no log yet.
 pub const EMPTY: &str = "empty";
+
+/// A step takes half a byte of a log or more. The proved checker leaves three
+/// digits for a refusal and for a count, and five for a value.
+const LONGEST_STEP: usize = "131072 255 65535\n".len();
+const LONGEST_OFFICE: usize = "office 31 255 255 255\n".len();
+
+/// No report on a log of this many bytes is longer, as the C header's
+/// `SKOVARNEK_REPORT_BOUND` says.
+pub fn report_bound(log_len: usize) -> usize {
+    2 * log_len.min(LONGEST_LOG) * LONGEST_STEP + 32 * LONGEST_OFFICE
+}
 
 /// The report on a log.
 pub fn check(log: &[u8]) -> Vec<u8> {

@@ -46,7 +46,7 @@ fn measure(row: &Row, runs: usize) -> Result<(), String> {
     if proved::check(&row.log) != report {
         return Err("the reports differ".to_string());
     }
-    let mut buffer = vec![0; proved::room_for_report(&row.log)];
+    let mut buffer = vec![0; report::report_bound(row.log.len())];
     let (mut best_call, mut best_rust) = (Duration::MAX, Duration::MAX);
     for _ in 0..runs {
         best_call = best_call.min(time(|| {

@@ -1,11 +1,14 @@
 //! The numbers that the C header gives, against those that the proved code has.
 
 use skovarnek_compare::packed::LONGEST_LOG;
+use skovarnek_compare::report::report_bound;
 use std::fs;
 use std::path::Path;
 
+pub const HEADER: &str = "include/skovarnek.h";
+
 /// The number that stands behind these words in a file of the repository.
-fn number_in(path: &str, words: &str) -> usize {
+pub fn number_in(path: &str, words: &str) -> usize {
     let path = Path::new(env!("CARGO_MANIFEST_DIR")).join("..").join(path);
     let text = fs::read_to_string(path).expect("a file");
     let (_, behind) = text.split_once(words).expect("the words");
@@ -15,18 +18,27 @@ fn number_in(path: &str, words: &str) -> usize {
 
 #[test]
 fn longest_log() {
-    let header = number_in("include/skovarnek.h", "SKOVARNEK_LONGEST_LOG ");
+    let header = number_in(HEADER, "SKOVARNEK_LONGEST_LOG ");
     assert_eq!(header, LONGEST_LOG);
 }
 
-/// A step takes half a byte or more. The proof leaves three digits for a refusal
-/// and for a count, and five for a value.
 #[test]
 fn longest_report() {
-    let header = number_in("include/skovarnek.h", "SKOVARNEK_LONGEST_REPORT ");
-    let steps = 2 * LONGEST_LOG * "131072 255 65535\n".len();
-    let offices = 32 * "office 31 255 255 255\n".len();
-    assert_eq!(header, steps + offices);
+    let header = number_in(HEADER, "SKOVARNEK_LONGEST_REPORT ");
+    assert_eq!(header, report_bound(LONGEST_LOG));
     let code = number_in("crates/report/src/check.rt", "LONGEST_REPORT: usize = ");
     assert_eq!(header, code);
+}
+
+/// Two lines of 17 bytes for each byte of the log, and 32 lines of 22.
+#[test]
+fn bound_of_a_report() {
+    let for_each_byte = number_in(HEADER, "SKOVARNEK_LONGEST_LOG ? ");
+    let for_offices = number_in(HEADER, "(size_t)(log_len) + ");
+    assert_eq!((for_each_byte, for_offices), (2 * 17, 32 * 22));
+    for length in [0, 1, 53, LONGEST_LOG - 1, LONGEST_LOG] {
+        let header = for_each_byte * length + for_offices;
+        assert_eq!(header, report_bound(length));
+    }
+    assert_eq!(report_bound(usize::MAX), report_bound(LONGEST_LOG));
 }

@@ -12,6 +12,8 @@ mod decided;
 mod forks;
 mod header;
 mod heavy;
+#[cfg(not(feature = "proved"))]
+mod left_out;
 mod logtool;
 mod never_back;
 #[cfg(feature = "proved")]

@@ -1,7 +1,9 @@
 //! Both checkers, byte for byte.
 
+use super::header::{HEADER, number_in};
 use super::{cases, seeds, seeds_or};
 use skovarnek_compare::proved::{LentBuffer, LentLog, check_lent};
+use skovarnek_compare::report::report_bound;
 use skovarnek_compare::{check, generate, proved, text};
 use std::{ptr, thread};
 
@@ -139,6 +141,23 @@ fn buffers_for_a_long_report() {
     let length = case.report.len();
     for length in [length - 1, length, length + 1] {
         assert_buffer(&case.name, &case.log, case.report.as_bytes(), length);
+    }
+}
+
+/// The logs to measure with, each in a buffer of the header's bound, on a thread
+/// with no more stack than the header says that the call needs. The thread's own
+/// frames take some of it, and a guard page stands behind it.
+#[test]
+fn long_logs_on_a_small_stack() {
+    let stack = 1000 * number_in(HEADER, "The call needs less than ");
+    for row in generate::rows() {
+        let mut buffer = vec![DIRT; report_bound(row.log.len())];
+        let written = thread::scope(|scope| {
+            let small = thread::Builder::new().stack_size(stack);
+            let thread = small.spawn_scoped(scope, || proved::check_into(&row.log, &mut buffer));
+            thread.expect("a thread").join().expect("a length")
+        });
+        assert_left(row.name, &check(&row.log), &buffer, written);
     }
 }
 
