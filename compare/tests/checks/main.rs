@@ -2,7 +2,7 @@
 //! to measure with are, that final chains agree and never go back, who has
 //! signed a block and how many have, the text form, the tool, the C header's
 //! numbers, and (feature `proved`) the comparison of both checkers and the proved
-//! program.
+//! program, or a word that it is left out.
 
 mod agreement;
 mod cases;
