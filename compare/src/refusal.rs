@@ -42,7 +42,7 @@ pub enum Refusal {
 }
 
 /// Word and meaning of the refusals, from number 1 up.
-const TABLE: [(&str, &str); 32] = [
+pub const TABLE: [(&str, &str); 32] = [
     ("count", "n not 1 to 32"),
     ("schedule", "length not 1 to 256"),
     ("stray leader", "a leader is n or above"),
