@@ -8,6 +8,7 @@ mod widths;
 mod worked;
 
 use skovarnek_compare::check;
+use std::fmt::Debug;
 use std::fs;
 use std::path::Path;
 
@@ -46,6 +47,14 @@ fn table(document: &str, columns: &[&str]) -> Vec<Vec<String>> {
         assert_eq!(row.len(), columns.len(), "{document}: {row:?}");
     }
     rows
+}
+
+/// What a document has, row by row, is what it should have.
+fn assert_rows<T: Debug + PartialEq>(written: &[T], wanted: &[T]) {
+    for (written, wanted) in written.iter().zip(wanted) {
+        assert_eq!(written, wanted);
+    }
+    assert_eq!(written.len(), wanted.len(), "rows are missing, or too many");
 }
 
 /// The first indented lines behind these words, without their indents.

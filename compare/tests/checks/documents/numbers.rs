@@ -1,6 +1,6 @@
 //! Numbers and words of refusal, the order of each step's refusals, the limits.
 
-use super::{FORMAT, RULES, number, table, text_of, widths};
+use super::{FORMAT, RULES, assert_rows, number, table, text_of, widths};
 use crate::header::number_in;
 use skovarnek_compare::packed::LONGEST_LOG;
 use skovarnek_compare::refusal::TABLE;
@@ -53,10 +53,10 @@ fn numbers_and_words() {
         .iter()
         .map(|row| (number(&row[0]), row[1].clone()))
         .collect();
-    assert_eq!(written, numbers_of_the_code());
+    assert_rows(&written, &numbers_of_the_code());
     let words = TABLE.iter().map(|(word, _)| word.to_string());
     let of_this_package: Vec<(usize, String)> = (1..).zip(words).collect();
-    assert_eq!(written, of_this_package);
+    assert_rows(&written, &of_this_package);
 }
 
 /// The numbers behind the tests of a definition, which an empty line ends.
@@ -104,7 +104,7 @@ fn refusals_of_the_writer() {
         ("write_end", writing("pub endRefused : ")),
     ];
     let wanted = wanted.map(|(call, order)| vec![call.to_string(), order.join(" ")]);
-    assert_eq!(table(FORMAT, &["call", "refusals, in order"]), wanted);
+    assert_rows(&table(FORMAT, &["call", "refusals, in order"]), &wanted);
 }
 
 #[test]

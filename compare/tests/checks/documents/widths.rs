@@ -1,6 +1,6 @@
 //! The widths of the packed log's fields.
 
-use super::{FORMAT, number, table, text_of};
+use super::{FORMAT, assert_rows, number, table, text_of};
 use crate::header::number_in;
 use skovarnek_compare::packed::opening_bits;
 use skovarnek_compare::packed::{COUNT_WIDTH, KIND_WIDTH, LENGTH_WIDTH, OFFICE_WIDTH, WIDTHS};
@@ -84,7 +84,7 @@ fn kinds_and_fields() {
         "fourth",
         "bits in all",
     ];
-    assert_eq!(table(FORMAT, &columns), rows);
+    assert_rows(&table(FORMAT, &columns), &rows);
     assert_eq!(number_in(CODE, "KIND_WIDTH: usize = "), KIND_WIDTH);
     for (place, kind) in kinds.iter().enumerate() {
         let widths: Vec<usize> = kind.fields.iter().map(|&(_, width)| width).collect();
@@ -134,5 +134,5 @@ fn opening() {
         .iter()
         .map(|row| (row[0].as_str(), number(&row[1])))
         .collect();
-    assert_eq!(written, wanted);
+    assert_rows(&written, &wanted);
 }

@@ -1,7 +1,9 @@
 //! The worked case bit by bit, and the log with all eight kinds.
 
 use super::widths::{Kind, kinds};
-use super::{FORMAT, block_behind, bytes_of, from_hex, number, report, table, text_of};
+use super::{
+    FORMAT, assert_rows, block_behind, bytes_of, from_hex, number, report, table, text_of,
+};
 use skovarnek_compare::packed::{read_log, write_log};
 use skovarnek_compare::text::parse;
 
@@ -104,7 +106,7 @@ fn steps() {
         assert_eq!(row[3], bits, "{row:?}");
         said.push(line);
     }
-    assert_eq!(said, lines()[3..]);
+    assert_rows(&said, &lines()[3..]);
     let pad = (8 - (number(&end[0]) + 4) % 8) % 8;
     assert_eq!(end[1], "end");
     assert_eq!(end[2], format!("end, and a pad of {pad} bits"));
