@@ -26,7 +26,7 @@ fn longest_log() {
 fn longest_report() {
     let header = number_in(HEADER, "SKOVARNEK_LONGEST_REPORT ");
     assert_eq!(header, report_bound(LONGEST_LOG));
-    let code = number_in("crates/report/src/check.rt", "LONGEST_REPORT: usize = ");
+    let code = number_in("crates/report/src/checking.rt", "LONGEST_REPORT: usize = ");
     assert_eq!(header, code);
 }
 

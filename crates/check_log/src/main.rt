@@ -14,8 +14,8 @@ use output::complain;
 use output::complain_of_usage;
 use output::print_report;
 use output::print_usage;
-use report::check::LONGEST_REPORT;
-use report::check::check;
+use report::LONGEST_REPORT;
+use report::check;
 
 // One byte more than a log may have: enough for a long log to be refused as such.
 const LOG_ROOM: usize = 65537;

@@ -3,11 +3,11 @@
 use libc::STDOUT_FILENO;
 use packed_log::Item;
 use packed_log::Wrote;
-use packed_log::item::read_item;
-use packed_log::opening::read_opening;
-use packed_log::write_opening::write_opening;
-use packed_log::writing::write_end;
-use packed_log::writing::write_step;
+use packed_log::read_item;
+use packed_log::read_opening;
+use packed_log::write_end;
+use packed_log::write_opening;
+use packed_log::write_step;
 use register::Block;
 use register::Epoch;
 use register::Kind;

@@ -131,8 +131,8 @@ few-from (suc fuel) log p =
     let next : ℕ = itemAt log p .next in
     few-item log p next (itemAt log p .item) (bodyFrom fuel log next) (item-sound log p) (omega (arith, few-from fuel log next))
 
--- a body has at most 131,072 steps
-pub body-few : (log : List ℕ) (p : ℕ) → length (bodyAt log p .steps) ≤ 131072
+-- a body has at most two steps for each byte of the log, or of the longest log
+pub body-few : (log : List ℕ) (p : ℕ) → length (bodyAt log p .steps) ≤ 2 * min (length log) 65536
 unfolding bodyAt
 body-few log p = omega (arith, few-from (left log p + 1) log p)
 

@@ -81,17 +81,17 @@ office-some r q size last told h e long test =
     let is : last ≡ block (finalOf (bookOf r) q) = e ∙ rw h in
     rw (test, long, is, h)
 
--- how far a run has come: with the lines of the rest of the steps, from this register on, the whole text is written
-pub record SoFar (before report whole : List ℕ) (next place : ℕ) (r : Register) (rest : List Step) : Type 0 where
+-- how far a run of at most so many steps has come: with the lines of the rest of them, from this register on, the whole text is written
+pub record SoFar (most : ℕ) (before report whole : List ℕ) (next place : ℕ) (r : Register) (rest : List Step) : Type 0 where
   pub sized : length report ≡ length before
   pub finish : {after : List ℕ} {later : ℕ} → TextWritten report next (runLines r place rest) later after → TextWritten before 0 whole later after
   pub short : next + stepBytes ≤ stepBytes * place
-  pub few : place + length rest ≤ 131073
+  pub few : place + length rest ≤ most + 1
 
 -- nothing is written yet
-pub run-begins : (before : List ℕ) (r : Register) (rest : List Step) → length rest ≤ 131072
-    → SoFar before before (runLines r 1 rest) 0 1 r rest
-run-begins before r rest few = record { sized = refl; finish = λ lines. lines; short = omega arith; few = omega arith }
+pub run-begins : (most : ℕ) (before : List ℕ) (r : Register) (rest : List Step) → length rest ≤ most
+    → SoFar most before before (runLines r 1 rest) 0 1 r rest
+run-begins most before r rest few = record { sized = refl; finish = λ lines. lines; short = omega arith; few = omega arith }
 
 module _ (r : Register) (place : ℕ) (rest : List Step) (count : ℕ) (given : Ran)
     (counts : count ≤ length rest) (runs : given ≡ ran r (take count rest))
@@ -115,9 +115,9 @@ module _ (r : Register) (place : ℕ) (rest : List Step) (count : ℕ) (given : 
         whole ∙ run-append r place (take count rest) (drop count rest) ∙ rw (part-lines, part-register, length-take-le count rest counts)
 
     -- a run comes one part further
-    pub run-goes-on : {before report after whole : List ℕ} {next later : ℕ} → SoFar before report whole next place r rest
+    pub run-goes-on : {before report after whole : List ℕ} {most next later : ℕ} → SoFar most before report whole next place r rest
         → TextWritten report next (batchLines place (given .refusals) (given .values) count) later after → later ≤ next + stepBytes * count
-        → SoFar before after whole later (place + count) (given .register) (drop count rest)
+        → SoFar most before after whole later (place + count) (given .register) (drop count rest)
     run-goes-on so-far lines short =
         record {
           sized = same-size lines ∙ so-far .sized;
@@ -127,8 +127,8 @@ module _ (r : Register) (place : ℕ) (rest : List Step) (count : ℕ) (given : 
         }
 
 -- where no step is left, the lines of the offices are still to come, and with them the run ends
-pub run-ends : {before report after whole : List ℕ} {next later place : ℕ} {r : Register} (rest : List Step)
-    → SoFar before report whole next place r rest → length rest ≡ 0 → TextWritten report next (officeLines r 32) later after
+pub run-ends : {before report after whole : List ℕ} {most next later place : ℕ} {r : Register} (rest : List Step)
+    → SoFar most before report whole next place r rest → length rest ≡ 0 → TextWritten report next (officeLines r 32) later after
     → TextWritten before 0 whole later after
 unfolding runLines answers stepLines afterSteps
 run-ends [] so-far none lines = so-far .finish lines

@@ -1,5 +1,5 @@
 -- The report of a log.
-use Prim.Native.Nat.{ℕ, zero, suc, _+_, _*_}
+use Prim.Native.Nat.{ℕ, zero, suc, _+_, _*_, min}
 use mathlib.Core.List.{List, [], _∷_, _++_}
 use lib.Dec.{eqb, leb}
 use lib.ListN.{length, drop, replicate}
@@ -47,9 +47,17 @@ faultLine log fault = choose (eqb (length log) 0) emptyLine (logLine fault)
 unfoldable pub reportOf : (log : List ℕ) → List ℕ
 reportOf log = choose (eqb (faultOf log) 0) (runLines (openingIn log .register) 1 (bodyOf log .steps)) (faultLine log (faultOf log))
 
--- No report is longer: the shortest step takes four bits of a log, and there are at most 32 offices.
+-- a log of so many bytes has at most so many steps: the shortest takes four bits, and a log over 65,536 bytes does not read
+abbrev pub mostSteps : (size : ℕ) → ℕ
+mostSteps size = 2 * min size 65536
+
+-- its report has no more bytes: there are at most 32 offices
+abbrev pub reportBound : (size : ℕ) → ℕ
+reportBound size = mostSteps size * stepBytes + 32 * officeBytes
+
+-- so no report is longer than that of the longest log may be
 abbrev pub longestReport : ℕ
-longestReport = 131072 * stepBytes + 32 * officeBytes
+longestReport = reportBound 65536
 
 -- the length that is returned: 0 where the report does not fit
 unfoldable pub givenLength : (log buffer : List ℕ) → ℕ

@@ -1,5 +1,8 @@
 // The report of a log.
-pub mod check;
+mod checking;
 mod lines;
 mod run;
 mod text;
+
+pub use checking::LONGEST_REPORT;
+pub use checking::check;

@@ -1,9 +1,10 @@
 // Running the steps of a log.
 ghost use Prim.Native.Nat.{_≤_};
+ghost use lib.ListN.{length};
 ghost use Rattle.words.specs.Lent.{lent, given};
 ghost use Rattle.report.specs.Text.{TextWritten};
 ghost use Rattle.replay.specs.Bodies.{bodyAt};
-ghost use Rattle.report.specs.Reports.{runLines, longestReport};
+ghost use Rattle.report.specs.Reports.{runLines, reportBound};
 use crate::lines::write_batch;
 use crate::lines::write_offices;
 use register::Register;
@@ -14,7 +15,7 @@ use replay::body::steps_of;
 pub(crate) fn write_run(report: &mut [u8], log: &[u8], from: usize, register: Register) -> usize
     ensures { λ r. ⌜
         TextWritten (lent report) 0 (runLines register 1 (bodyAt (lent log) from .steps)) r (given report)
-        × (r ≤ longestReport) ⌝ }
+        × (r ≤ reportBound (length (lent log))) ⌝ }
 {
     let mut current = register;
     let mut at = from;

@@ -8,7 +8,7 @@ use Rattle.register.specs.Limits.{batch}
 use Rattle.replay.specs.Bodies.{bodyAt}
 use Rattle.replay.proofs.BodyLaws.{body-few}
 use Rattle.replay.proofs.PartLaws.{part-count, part-rest, part-fewer, part-ran}
-use Rattle.report.specs.Reports.{runLines}
+use Rattle.report.specs.Reports.{mostSteps, runLines}
 use Rattle.report.proofs.TextLaws.{same-size}
 use Rattle.report.proofs.RunText.{SoFar, run-begins, run-goes-on, run-ends}
 use Rattle.report.proofs.run.write_run.Statement.{statement}
@@ -16,7 +16,7 @@ use Rattle.report.proofs.run.write_run.Tie as tie
 
 abbrev Inv-loop : tie.InvT-loop
 Inv-loop report₀ log from current₀ at₀ place₀ next₀ report current at place next =
-    SoFar report₀ report (runLines current₀ 1 (bodyAt log from .steps)) next place current (bodyAt log at .steps)
+    SoFar (mostSteps (length log)) report₀ report (runLines current₀ 1 (bodyAt log from .steps)) next place current (bodyAt log at .steps)
 
 abbrev μ-loop : tie.MeasureT-loop
 μ-loop report₀ log from current₀ at₀ place₀ next₀ report current at place next = length (bodyAt log at .steps)
@@ -59,7 +59,7 @@ write-run-spec =
     tie.close (tie.spec
     Inv-loop
     μ-loop
-    (λ c. run-begins _ _ _ (body-few _ _))
+    (λ c. run-begins _ _ _ _ (body-few _ _))
     (λ c κs. search needs) (λ c κs. search needs) (λ c κs. search needs)
     (λ c κs.
     let few = counts (c .before .before .before .before .before .before .before .before .before) in

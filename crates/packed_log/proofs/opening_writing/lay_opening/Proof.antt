@@ -1,9 +1,9 @@
--- `packed_log::write_opening::lay_opening`: each part is laid where the one before it ends.
+-- `packed_log::opening_writing::lay_opening`: each part is laid where the one before it ends.
 use borrow.Author.Needs.{needs}
 use native.Mathlib.Omega.{arith}
 use Rattle.packed_log.proofs.WritingLaws.{put-opening}
-use Rattle.packed_log.proofs.write_opening.lay_opening.Statement.{statement}
-use Rattle.packed_log.proofs.write_opening.lay_opening.Tie as tie
+use Rattle.packed_log.proofs.opening_writing.lay_opening.Statement.{statement}
+use Rattle.packed_log.proofs.opening_writing.lay_opening.Tie as tie
 
 pub lay-opening-spec : {M : Type 1} → statement M
 lay-opening-spec =

@@ -1,4 +1,4 @@
--- `packed_log::write_opening::write_trust`: at each turn the trust bits of the offices below q are laid.
+-- `packed_log::opening_writing::write_trust`: at each turn the trust bits of the offices below q are laid.
 use borrow.Author.Needs.{needs}
 use Prim.Native.Nat.{_-_, _≤_, _<_}
 use mathlib.Core.Path.{_≡_, sym, ap, _∙_}
@@ -7,8 +7,8 @@ use lib.ListN.{length}
 use Rattle.words.proofs.Digits.{digit-lt}
 use Rattle.packed_log.specs.{Bits.put, Writing.trustBits}
 use Rattle.packed_log.proofs.{BitsLaws.put-none, BitsLaws.length-put, WritingLaws.next-trust-bit}
-use Rattle.packed_log.proofs.write_opening.write_trust.Statement.{statement}
-use Rattle.packed_log.proofs.write_opening.write_trust.Tie as tie
+use Rattle.packed_log.proofs.opening_writing.write_trust.Statement.{statement}
+use Rattle.packed_log.proofs.opening_writing.write_trust.Tie as tie
 
 abbrev Inv-loop : tie.InvT-loop
 Inv-loop buf₀ at n trust q₀ buf q = (q ≤ n) × (buf ≡ put buf₀ at (trustBits q trust))

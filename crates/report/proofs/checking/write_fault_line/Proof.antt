@@ -1,12 +1,12 @@
--- `report::check::write_fault_line`: the word `empty`, or the log's number.
+-- `report::checking::write_fault_line`: the word `empty`, or the log's number.
 use borrow.Author.Needs.{needs}
 use native.Mathlib.Omega.{arith}
 use borrow.Author.Tests.{eq-eqb, ne-eqb}
 use lib.ListN.{length}
 use Rattle.words.specs.Tests.{choose}
 use Rattle.report.specs.Reports.{faultLine}
-use Rattle.report.proofs.check.write_fault_line.Statement.{statement}
-use Rattle.report.proofs.check.write_fault_line.Tie as tie
+use Rattle.report.proofs.checking.write_fault_line.Statement.{statement}
+use Rattle.report.proofs.checking.write_fault_line.Tie as tie
 
 returns : tie.Need-returns
 unfolding faultLine choose

@@ -1,4 +1,4 @@
--- `packed_log::write_opening::write_opening`: refuses what the register refuses, then with 31, or lays the opening.
+-- `packed_log::opening_writing::write_opening`: refuses what the register refuses, then with 31, or lays the opening.
 use borrow.Author.Needs.{needs}
 use mathlib.Core.Path.{_≡_, sym, _∙_}
 use native.Mathlib.Omega.{arith}
@@ -6,8 +6,8 @@ use Rattle.quorum.specs.Opening.{openingRefusal}
 use Rattle.packed_log.specs.Writing.{openingBits}
 use Rattle.packed_log.proofs.WritingLaws.{length-opening, has-room, call-refused, call-short, call-fits, opening-bad, opening-room}
 use Rattle.packed_log.proofs.OpeningLaws.{accepted}
-use Rattle.packed_log.proofs.write_opening.write_opening.Statement.{statement}
-use Rattle.packed_log.proofs.write_opening.write_opening.Tie as tie
+use Rattle.packed_log.proofs.opening_writing.write_opening.Statement.{statement}
+use Rattle.packed_log.proofs.opening_writing.write_opening.Tie as tie
 
 -- the start, seen from behind the opening's test
 abbrev start : tie.Else1 → tie.Start

@@ -1,4 +1,4 @@
--- `packed_log::write_opening::write_leaders`: at each turn the first i leaders are laid.
+-- `packed_log::opening_writing::write_leaders`: at each turn the first i leaders are laid.
 use borrow.Author.Needs.{needs}
 use Prim.Native.Nat.{_-_, _≤_, _<_}
 use mathlib.Core.Path.{_≡_, sym, ap, _∙_}
@@ -7,8 +7,8 @@ use lib.ListN.{length, getD, take}
 use lib.Seq.{take-length}
 use Rattle.packed_log.specs.{Bits.put, Writing.leaderBits}
 use Rattle.packed_log.proofs.{BitsLaws.put-none, BitsLaws.length-put, WritingLaws.next-leader-bits}
-use Rattle.packed_log.proofs.write_opening.write_leaders.Statement.{statement}
-use Rattle.packed_log.proofs.write_opening.write_leaders.Tie as tie
+use Rattle.packed_log.proofs.opening_writing.write_leaders.Statement.{statement}
+use Rattle.packed_log.proofs.opening_writing.write_leaders.Tie as tie
 
 abbrev Inv-loop : tie.InvT-loop
 Inv-loop buf₀ at schedule i₀ buf i = (i ≤ length schedule) × (buf ≡ put buf₀ at (leaderBits (take i schedule)))

@@ -1,10 +1,10 @@
--- `report::check::fitted`: the report stays where it fits, and is cleared where it does not.
+-- `report::checking::fitted`: the report stays where it fits, and is cleared where it does not.
 use borrow.Author.Needs.{needs}
 use mathlib.Core.Path.{refl}
 use borrow.Author.Tests.{le-leb, lt-leb}
 use Rattle.words.specs.Tests.{choose}
-use Rattle.report.proofs.check.fitted.Statement.{statement}
-use Rattle.report.proofs.check.fitted.Tie as tie
+use Rattle.report.proofs.checking.fitted.Statement.{statement}
+use Rattle.report.proofs.checking.fitted.Tie as tie
 
 pub fitted-spec : {M : Type 1} → statement M
 unfolding choose

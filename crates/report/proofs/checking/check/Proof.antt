@@ -1,10 +1,10 @@
--- `report::check::check`: the report is written, and kept where it fits.
+-- `report::checking::check`: the report is written, and kept where it fits.
 use borrow.Author.Needs.{needs}
 use mathlib.Core.Path.{_∙_}
 use native.Mathlib.Omega.{arith}
 use Rattle.report.proofs.CheckLaws.{checked}
-use Rattle.report.proofs.check.check.Statement.{statement}
-use Rattle.report.proofs.check.check.Tie as tie
+use Rattle.report.proofs.checking.check.Statement.{statement}
+use Rattle.report.proofs.checking.check.Tie as tie
 
 returns : tie.Need-returns
 returns c =

@@ -1,12 +1,12 @@
--- `report::check::write_report`: the one line of a log that is refused, or the lines of its steps and of the offices.
+-- `report::checking::write_report`: the one line of a log that is refused, or the lines of its steps and of the offices.
 use borrow.Author.Needs.{needs}
 use mathlib.Core.Path.{sym, _∙_}
 use native.Mathlib.Omega.{arith}
 use Rattle.replay.specs.Bodies.{bodyOf}
 use Rattle.replay.proofs.BodyLaws.{same-fault}
 use Rattle.report.proofs.CheckLaws.{report-refused, report-run}
-use Rattle.report.proofs.check.write_report.Statement.{statement}
-use Rattle.report.proofs.check.write_report.Tie as tie
+use Rattle.report.proofs.checking.write_report.Statement.{statement}
+use Rattle.report.proofs.checking.write_report.Tie as tie
 
 returns : tie.Need-returns
 returns c =
