@@ -4,13 +4,16 @@ use mathlib.Core.Path.{_≡_}
 use mathlib.Core.Bool.{true, false, not}
 use mathlib.Core.Logic.{_⊎_}
 use native.Mathlib.Omega.{arith}
-use borrow.Author.Tests.{eqb-true, ltb-false, not-true}
+use borrow.Author.Tests.{eqb-true, ltb-false, le-ltb, not-true}
 use lib.Dec.{eqb}
-use Rattle.words.specs.Tests.{any}
+use Rattle.words.specs.Tests.{both, any}
 use Rattle.words.specs.Sums.{tally}
 use Rattle.words.proofs.Tests.{both-left, both-right, both-false, any-none}
+use Rattle.words.proofs.Sums.{tally-past, tally-not}
+use Rattle.tables.specs.Blocks.{trustedIn}
 use Rattle.tables.specs.Messages.{saysIn}
 use Rattle.register.specs.declared.book.Book.{Book}
+use Rattle.register.specs.Limits.{mostOffices}
 use Rattle.register.specs.Tables.{trusted, acted, parentOf, epochOf, signerOf, aboutOf, finalOf}
 use Rattle.register.specs.Views.{says}
 use Rattle.register.specs.Chains.{chainLength, chainNotarised, longer, longest}
@@ -101,6 +104,14 @@ signature r h x m sent t =
 -- a signed block has been made
 pub signed-le : {r : Book} {h x : ℕ} → Safe r → Signature r h x → x ≤ r .last .0
 signed-le {r} {h} {x} safe s = omega (arith, safe .ranges .messages (s .message) (s .sent) .1 .1, s .about)
+
+-- some office is trusted
+pub someone : {r : Book} → Safe r → 0 < tally mostOffices (trusted r)
+unfolding trustedIn both
+someone {r} safe =
+    let here : tally mostOffices (trusted r) ≡ tally (r .n) (trusted r)
+    = tally-past (r .n) mostOffices (trusted r) (safe .ranges .counts .offices) (λ q past. rw (le-ltb q (r .n) past)) in
+    omega (arith, here, safe .few, tally-not (r .n) (trusted r))
 
 -- a longest chain is notarised
 pub longest-notarised : (r : Book) (q b : ℕ) → longest r q b ≡ true → chainNotarised r q b ≡ true

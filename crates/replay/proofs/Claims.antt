@@ -1,4 +1,5 @@
--- The claims of specs/Claims: a log without a fault is a run that it reads as, and its final chains agree and never go back.
+-- The claims of specs/Claims: a log without a fault is a run that it reads as, its final chains agree and never go back, and some office is
+-- trusted.
 use Prim.Native.Nat.{ℕ, zero, suc}
 use mathlib.Core.Path.{_≡_, refl, _∙_}
 use mathlib.Core.List.{List}
@@ -7,13 +8,14 @@ use Rattle.words.specs.Tests.{choose}
 use Rattle.register.specs.Opening.{opening}
 use Rattle.register.specs.Runs.{opened, moment}
 use Rattle.agreement.specs.Claim.{Agreement, NeverBack}
-use Rattle.agreement.proofs.Agreement.{agreement}
+use Rattle.agreement.proofs.Safety.{someone}
+use Rattle.agreement.proofs.Agreement.{agreement, safe-moment}
 use Rattle.agreement.proofs.Consequences.{never-back}
 use Rattle.packed_log.specs.Openings.{openingIn}
 use Rattle.packed_log.proofs.OpeningsReadBack.{opening-opens}
 use Rattle.replay.specs.Bodies.{bodyOf, faultOf}
 use Rattle.replay.proofs.BodyLaws.{reads-body, body-reads}
-use Rattle.replay.specs.Claims.{caseOf, RunOf, LogsAreRuns, ReadsHaveNoFault, placeIn, LogsAgree, LogsNeverGoBack}
+use Rattle.replay.specs.Claims.{caseOf, RunOf, LogsAreRuns, ReadsHaveNoFault, placeIn, LogsAgree, LogsNeverGoBack, SomeoneIsTrusted}
 
 -- where neither the opening nor what stands behind it is refused, the opening is not
 none-first : (opening body : ℕ) → choose (eqb opening 0) body opening ≡ 0 → opening ≡ 0
@@ -60,3 +62,10 @@ unfolding LogsNeverGoBack LogsAreRuns NeverBack
 logs-never-go-back log reads i j p before =
     let held : RunOf log = logs-are-runs log reads in
     rw (place-moment log held i, place-moment log held j) (never-back (held .run) i j p before)
+
+-- some office is trusted at every place of every log that reads
+pub someone-is-trusted : SomeoneIsTrusted
+unfolding SomeoneIsTrusted LogsAreRuns
+someone-is-trusted log reads i =
+    let held : RunOf log = logs-are-runs log reads in
+    rw (place-moment log held i) (someone (safe-moment (held .run) i))

@@ -1,11 +1,15 @@
--- What is claimed of logs: one has no fault exactly when it reads as an opening with steps; then it is a run, its final chains agree and never go back.
-use Prim.Native.Nat.{ℕ, _≤_}
+-- What is claimed of logs: one has no fault exactly when it reads as an opening with steps; then it is a run, its final chains agree and never go back, and some office is trusted.
+use Prim.Native.Nat.{ℕ, _≤_, _<_}
 use mathlib.Core.Path.{_≡_}
 use mathlib.Core.List.{List}
 use lib.ListN.{length, take}
+use Rattle.words.specs.Sums.{tally}
 use Rattle.register.specs.declared.sorts.Office.{Office}
 use Rattle.register.specs.declared.sorts.Block.{Block}
 use Rattle.register.specs.declared.table.Register.{Register}
+use Rattle.register.specs.Limits.{mostOffices}
+use Rattle.register.specs.Books.{bookOf}
+use Rattle.register.specs.Tables.{trusted}
 use Rattle.register.specs.Runs.{afterSteps, Run, opened}
 use Rattle.agreement.specs.Claim.{chainOf, finalChain, Trusted, Notarised, Begins}
 use Rattle.packed_log.specs.Openings.{openingIn}
@@ -55,3 +59,7 @@ LogsNeverGoBack =
     → i ≤ j
     → Trusted (placeIn log i) p
     → Begins (finalChain (placeIn log i) p) (finalChain (placeIn log j) p)
+
+-- Of every log that reads: some office is trusted, at every place of it.
+unfoldable pub SomeoneIsTrusted : Type 0
+SomeoneIsTrusted = (log : List ℕ) → faultOf log ≡ 0 → (i : ℕ) → 0 < tally mostOffices (trusted (bookOf (placeIn log i)))

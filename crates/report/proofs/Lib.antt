@@ -3,4 +3,5 @@ pub mod TextLaws
 pub mod RunText
 pub mod CheckLaws
 pub mod EmptyLaws
+pub mod SomeLine
 pub mod Claims

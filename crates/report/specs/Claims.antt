@@ -1,5 +1,5 @@
--- What is claimed of reports: of that of a log that reads, and of the line `empty`.
-use Prim.Native.Nat.{ℕ, _*_, _≤_}
+-- What is claimed of reports: of that of a log that reads, of the line `empty`, and that none is empty.
+use Prim.Native.Nat.{ℕ, _*_, _≤_, _<_}
 use mathlib.Core.Path.{_≡_}
 use mathlib.Core.List.{List, []}
 use lib.ListN.{length}
@@ -22,3 +22,7 @@ pub record NoLogYet : Type 0 where
   pub alone : (log : List ℕ) → reportOf log ≡ emptyLine → log ≡ []
   pub opening : openingIn [] .refusal ≡ 27
   pub item : (log : List ℕ) (p : ℕ) → length log ≤ 65536 → 8 * length log ≤ p → itemAt log p ≡ read (Item.Refused 27) p
+
+-- Every report has some byte, so that a length of 0 says that the report does not fit.
+unfoldable pub NoReportIsEmpty : Type 0
+NoReportIsEmpty = (log : List ℕ) → 0 < length (reportOf log)

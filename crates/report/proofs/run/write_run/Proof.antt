@@ -59,7 +59,9 @@ write-run-spec =
     tie.close (tie.spec
     Inv-loop
     μ-loop
-    (λ c. run-begins _ _ _ _ (body-few _ _))
+    (λ c.
+    let log = c .before .before .args .log .now in
+    run-begins (mostSteps (length log)) _ _ _ (omega (arith, body-few log (c .before .before .args .from))))
     (λ c κs. search needs) (λ c κs. search needs) (λ c κs. search needs)
     (λ c κs.
     let few = counts (c .before .before .before .before .before .before .before .before .before) in

@@ -3,7 +3,6 @@ use borrow.Author.Needs.{needs}
 use Prim.Native.Nat.{_<_}
 use mathlib.Core.Path.{sym, _∙_}
 use borrow.Author.Tests.{not-true, not-false}
-use Rattle.register.specs.Books.{bookOf}
 use Rattle.register.proofs.Telling.{in-table, content-none, content-found}
 use Rattle.register.proofs.table.Register.content.Statement.{statement}
 use Rattle.register.proofs.table.Register.content.Tie as tie
