@@ -1,0 +1,2 @@
+-- Counting the steps of a log.
+pub mod Counts
