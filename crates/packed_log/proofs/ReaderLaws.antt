@@ -43,11 +43,11 @@ use Rattle.packed_log.proofs.reader.Reader.Laws as reader-laws
 -- ---- a reader
 
 -- the reader at another position
-abbrev moved : Reader → ℕ → Reader
+abbrev pub moved : Reader → ℕ → Reader
 moved r n = record { log = r .log; at = n }
 
 -- the machine values of a reader and of its log
-abbrev val : Reader → Val
+abbrev pub val : Reader → Val
 val r = reader-laws.lowered r
 
 abbrev pub logVal : Reader → Val
@@ -57,17 +57,17 @@ logVal r = sliceVal (r .log .ptr) (length (r .log .now))
 abbrev logLft : Lft → NamedLft
 logLft κ = record { mir = named 1; lft = κ }
 
-abbrev Row : Lft → RattleType
+abbrev pub Row : Lft → RattleType
 Row κ = reader.the-row (logLft κ)
 
-abbrev Parts : Lft → Declared
+abbrev pub Parts : Lft → Declared
 Parts κ = reader.the-type (logLft κ)
 
-abbrev laws : (κ : Lft) → struct.Laws (Parts κ)
+abbrev pub laws : (κ : Lft) → struct.Laws (Parts κ)
 laws κ = reader-laws.the-laws (logLft κ)
 
 -- what a reader owns, and what its log owns
-abbrev Own : Lft → Reader → Fml
+abbrev pub Own : Lft → Reader → Fml
 Own κ r = Row κ .own r (val r ∷ [])
 
 abbrev pub LogOwn : Lft → Reader → Fml
@@ -96,7 +96,7 @@ module _ {M : Type 1} (𝓤 : URA M) (H : Heap 𝓤) (A : Atoms 𝓤) (W : Given
 -- ---- a reader that is lent
 
 -- the log outlives the `&mut`
-abbrev outlives : List (Outlives 2)
+abbrev pub outlives : List (Outlives 2)
 outlives = record { long = 1; long-ok = tt; short = 0; short-ok = tt } ∷ []
 
 -- the reader behind the `&mut`, as a signature has it
@@ -104,7 +104,7 @@ abbrev lent : Slot 2
 lent = plain (λ κs. reader.the-row (namedLft 2 1 tt κs))
 
 -- the signature of `fn f(&mut self) -> T`; the `&mut` is the caller's again at the end
-abbrev Method : RattleType → Ended
+abbrev pub Method : RattleType → Ended
 Method T = record {
   signature = record { lifetimes = 2; outlives = outlives; params = RefMutOf (0 ∷ []) tt lent (λ _. tt) ∷ []; result = plain (λ _. T) };
   kept = (yes, tt);

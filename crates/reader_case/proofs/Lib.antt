@@ -1,4 +1,2 @@
--- The laws that the proofs of the functions cite.
+-- The laws of the definitions in specs/.
 pub mod CountLaws
--- What a walk needs that has a reader in a local.
-pub mod LocalReader
