@@ -147,7 +147,6 @@ module _ (κ : Lft) (q : Share) (b : ℕ) where
     abbrev to : (α : ℕ) (γ : GName) → Met 𝓤 H A T c .Ghost
     to α γ = ((lfts α, shares, bounds α, passed γ r, (vptr b 0 ∷ [], tt)), g α γ)
 
-
     -- what is ensured: the answer is x, and the reader s
     abbrev Says : T .Denot → Reader → Type 1
     Says x s = (α : ℕ) (γ : GName) (y : T .Denot) (s′ : Reader) → ent 𝓤 (c (lfts α) (passed γ r) .ensures (g α γ) y (passed γ s′)) (fact 𝓤 ((y ≡ x) × (s′ ≡ s)))

@@ -79,6 +79,11 @@ fn print_count(name: &[u8], log: &[u8]) {
 }
 
 fn main() {
-    print_count(b"no steps", b"\x0F\x80\xC0\x00\x00");
     print_count(b"no bytes", b"");
+    print_count(b"no offices", b"\x00\x00");
+    print_count(b"no steps", b"\x0F\x80\xC0\x00\x00");
+    print_count(b"three steps", b"\x0F\x80\xC0\x00\x44\x40\x00");
+    print_count(b"no end", b"\x0F\x80\xC0\x00\x44\x40");
+    print_count(b"pad bit set", b"\x0F\x80\xC0\x00\x44\x40\x01");
+    print_count(b"no such step", b"\x0F\x80\xC0\x00\x44\x78");
 }
