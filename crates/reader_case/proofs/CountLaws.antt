@@ -1,8 +1,8 @@
 -- Counts: what is left of a log makes a count whole, one item at a time, and each item but the last leaves fewer bits.
-use Prim.Native.Nat.{ℕ, zero, suc, _+_, _≤_, _<_}
-use mathlib.Core.Path.{_≡_, refl, sym, _∙_, ap}
+use Prim.Native.Nat.{ℕ, suc, _+_, _≤_, _<_}
+use mathlib.Core.Path.{_≡_, refl, ap}
 use mathlib.Core.Bool.{Bool, true, false}
-use mathlib.Core.List.{List, []}
+use mathlib.Core.List.{List}
 use native.Mathlib.Omega.{arith}
 use borrow.Author.Tests.{ne-eqb}
 use lib.Dec.{eqb, eqb·suc-zero}
@@ -26,13 +26,13 @@ whole c rest = choose (c .more) (count (c .steps + length (rest .steps)) (rest .
 unfoldable pub turns : (log : List ℕ) → Count → (p : ℕ) → ℕ
 turns log c p = choose (c .more) (left log p + 1) 0
 
+-- behind the opening the body is all that is left
 opens : (refusal : ℕ) (rest : Body) (read : Bool)
     → whole (count 0 refusal read) rest ≡ count (choose read (length (rest .steps)) 0) (choose read (rest .refusal) refusal) false
 unfolding whole choose
 opens refusal rest true = ap (λ (n : ℕ). count n (rest .refusal) false) (omega arith)
 opens refusal rest false = refl
 
--- behind the opening
 pub count-opens : (log : List ℕ) → whole (opened (openingIn log .refusal)) (bodyAt log (openingIn log .next)) ≡ countOf log
 unfolding countOf faultOf bodyOf
 count-opens log = opens (openingIn log .refusal) (bodyAt log (openingIn log .next)) (eqb (openingIn log .refusal) 0)

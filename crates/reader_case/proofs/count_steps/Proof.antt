@@ -10,7 +10,7 @@
 use mathlib.Core.Path.{_≡_, refl, sym, _∙_, ap, subst}
 use mathlib.Core.Bool.{Bool, true, false, not}
 use mathlib.Core.WellFounded.{WellFounded, InvImage·wf}
-use Prim.Native.Nat.{ℕ, _≤_, _<_, _^_}
+use Prim.Native.Nat.{ℕ, _<_, _^_}
 use mathlib.Core.List.{List, [], _∷_, _++_}
 use lib.Dec.{T}
 use lib.WfN.{Nat·lt-wfRel}
@@ -170,7 +170,7 @@ module _ {M : Type 1} (𝓤 : URA M) (H : Heap 𝓤) (A : Atoms 𝓤) (mem : Mem
     from-said : (c : Count) → ent 𝓤 (ensured 𝓤 H A count-from.ended (count-from.clauses 𝓤 H A mem run) tt (number, tt) tt c) (fact 𝓤 (c ≡ opened number))
     from-said c = exE 𝓤 _ (λ ws. snd∗ 𝓤 (sem 𝓤 H A (lasts count-from.ended tt (number, tt) ws)) (fact 𝓤 (c ≡ opened number)))
 
-  -- `with_item`, on a state's count and the item that a reader r at its position has read
+  -- `with_item`, on a state's count and the item at its position, which has the machine value w
   module _ {log : List ℕ} (s : State log) (w : Val) where
     abbrev to-with : WithItem .Ghost
     to-with = ((tt, tt, tt, (s .count, (itemAt log (s .at) .item, tt)), (val (s .count) ∷ [], (w ∷ [], tt))), tt)
