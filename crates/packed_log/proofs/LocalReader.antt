@@ -143,7 +143,8 @@ module _ (κ : Lft) (q : Share) (b : ℕ) where
   abbrev passed : (γ : GName) → Reader → RefT Reader × Unit {0}
   passed γ r = (self κ q b γ r, tt)
 
-  module _ {M : Type 1} (𝓤 : URA M) (H : Heap 𝓤) (A : Atoms 𝓤) (T : RattleType) (c : Clauses 𝓤 (Method T)) (r : Reader) (g : (α : ℕ) (γ : GName) → c (lfts α) (passed γ r) .ghost) where
+  module _ {M : Type 1} (𝓤 : URA M) (H : Heap 𝓤) (A : Atoms 𝓤) (T : RattleType) (c : Clauses 𝓤 (Method T)) (r : Reader)
+      (g : (α : ℕ) (γ : GName) → c (lfts α) (passed γ r) .ghost) where
     abbrev to : (α : ℕ) (γ : GName) → Met 𝓤 H A T c .Ghost
     to α γ = ((lfts α, shares, bounds α, passed γ r, (vptr b 0 ∷ [], tt)), g α γ)
 
@@ -166,7 +167,8 @@ module _ (κ : Lft) (q : Share) (b : ℕ) where
     abbrev pub Lent : (α : ℕ) (γ : GName) → List (Item 𝓤)
     Lent α γ = raw (Met 𝓤 H A T c .pre (to α γ)) ∷ ‵ (Lender κ q b α γ) ∷ raw (Whole κ q b 𝓤 A α) ∷ []
 
-  module _ {M : Type 1} {𝓤 : URA M} {H : Heap 𝓤} {A : Atoms 𝓤} {K : Type 0} {W : Given 𝓤 H A} {Γ : List (Item 𝓤)} {E : Env 𝓤 H} {C : Calls 𝓤 H} {Λ : Loops 𝓤 H} {f : Name} {xs : List Operand} {d : Place} {rest : Code} {p : Post 𝓤 H} where
+  module _ {M : Type 1} {𝓤 : URA M} {H : Heap 𝓤} {A : Atoms 𝓤} {K : Type 0} {W : Given 𝓤 H A} {Γ : List (Item 𝓤)} {E : Env 𝓤 H}
+      {C : Calls 𝓤 H} {Λ : Loops 𝓤 H} {f : Name} {xs : List Operand} {d : Place} {rest : Code} {p : Post 𝓤 H} where
     calls-method : K → FmC 𝓤 H (W .laws) C → (T : RattleType) (c : Clauses 𝓤 (Method T)) → Triple 𝓤 (C f) (Met 𝓤 H A T c)
         → (r : Reader) (g : (α : ℕ) (γ : GName) → c (lfts α) (passed γ r) .ghost) → Asks 𝓤 H A T c r g → (x : T .Denot) (s : Reader) → Says 𝓤 H A T c r g x s
         → (v : Val) → ((w : Val) → Is T x (w ∷ []) → w ∷ [] ≡ v ∷ [])
@@ -258,7 +260,8 @@ module _ (κ : Lft) (q : Share) where
   abbrev local : NamedLft
   local = record { mir = erased; lft = κ }
 
-  module _ {M : Type 1} {𝓤 : URA M} {H : Heap 𝓤} {A : Atoms 𝓤} {K : Type 0} {W : Given 𝓤 H A} {Γ : List (Item 𝓤)} {E : Env 𝓤 H} {C : Calls 𝓤 H} {Λ : Loops 𝓤 H} {f : Name} {xs : List Operand} {d : Place} {rest : Code} {p : Post 𝓤 H} where
+  module _ {M : Type 1} {𝓤 : URA M} {H : Heap 𝓤} {A : Atoms 𝓤} {K : Type 0} {W : Given 𝓤 H A} {Γ : List (Item 𝓤)} {E : Env 𝓤 H}
+      {C : Calls 𝓤 H} {Λ : Loops 𝓤 H} {f : Name} {xs : List Operand} {d : Place} {rest : Code} {p : Post 𝓤 H} where
     pub calls-new : K → FmC 𝓤 H (W .laws) C → (mem : Memory → SProp 𝓤) (run : Routine → Fun 𝓤) → Triple 𝓤 (C f) (New 𝓤 H A mem run) → (log : RefT (List ℕ))
         → Opds K W (raw (New 𝓤 H A mem run .pre (to-new 𝓤 H A mem run log)) ∷ ‵ (LogOwn κ (at-start log)) ∷ Γ) E xs (logVal (at-start log) ∷ [])
         → (Fits (reader-laws.mir erased) (val (at-start log)) → Seq K W (‵ (Own κ (at-start log)) ∷ ‵ (flft κ q) ∷ ‵ (LogOwn κ (at-start log)) ∷ Γ) (lands C Λ E d (val (at-start log)) rest p))
@@ -280,18 +283,22 @@ module _ (κ : Lft) (q : Share) where
 
     pub calls-open : K → FmC 𝓤 H (W .laws) C → (mem : Memory → SProp 𝓤) (run : Routine → Fun 𝓤) → Triple 𝓤 (C f) (Open 𝓤 H A mem run) → (b : ℕ) (r : Reader)
         → ((α : ℕ) (γ : GName) → Opds K W (Lent κ q b 𝓤 H A opening.the-row (opens.clauses 𝓤 H A mem run) r (λ _ _. tt) α γ ++ Γ) E xs (vptr b 0 ∷ []))
-        → (Fits opening-laws.mir (opened-val r) → Is opening.the-row (opened r) (opened-val r ∷ []) → Seq K W (Held κ q b (moved r (opened r .next)) ++ Γ) (lands C Λ E d (opened-val r) rest p))
+        → (Fits opening-laws.mir (opened-val r) → Is opening.the-row (opened r) (opened-val r ∷ [])
+        → Seq K W (Held κ q b (moved r (opened r .next)) ++ Γ) (lands C Λ E d (opened-val r) rest p))
         → Seq K W (Held κ q b r ++ Γ) (runs C Λ E (seq (call f xs d) rest) p)
     calls-open t fm mem run known b r os k =
-        calls-method κ q b t fm opening.the-row (opens.clauses 𝓤 H A mem run) known r (λ _ _. tt) (λ _ _. id⊢ 𝓤 (emp 𝓤)) (opened r) (moved r (opened r .next)) (open-says 𝓤 H A mem run b r)
+        calls-method κ q b t fm opening.the-row (opens.clauses 𝓤 H A mem run) known r (λ _ _. tt) (λ _ _. id⊢ 𝓤 (emp 𝓤))
+        (opened r) (moved r (opened r .next)) (open-says 𝓤 H A mem run b r)
         (opened-val r) (λ w. struct.tells opening.the-type opening-laws.the-laws (opened r) (w ∷ [])) os
         (λ is. k (struct.lawful opening.the-type opening-laws.the-laws 𝓤 H A W .typed (opened r) _ is .0) is)
 
     pub calls-next : K → FmC 𝓤 H (W .laws) C → (mem : Memory → SProp 𝓤) (run : Routine → Fun 𝓤) → Triple 𝓤 (C f) (Next 𝓤 H A mem run) → (b : ℕ) (r : Reader)
         → ((α : ℕ) (γ : GName) → Opds K W (Lent κ q b 𝓤 H A item.the-row (next.clauses 𝓤 H A mem run) r (λ _ _. tt) α γ ++ Γ) E xs (vptr b 0 ∷ []))
-        → (Fits item-laws.mir (item-val r) → Is item.the-row (standing r .item) (item-val r ∷ []) → Seq K W (Held κ q b (moved r (standing r .next)) ++ Γ) (lands C Λ E d (item-val r) rest p))
+        → (Fits item-laws.mir (item-val r) → Is item.the-row (standing r .item) (item-val r ∷ [])
+        → Seq K W (Held κ q b (moved r (standing r .next)) ++ Γ) (lands C Λ E d (item-val r) rest p))
         → Seq K W (Held κ q b r ++ Γ) (runs C Λ E (seq (call f xs d) rest) p)
     calls-next t fm mem run known b r os k =
-        calls-method κ q b t fm item.the-row (next.clauses 𝓤 H A mem run) known r (λ _ _. tt) (λ _ _. id⊢ 𝓤 (emp 𝓤)) (standing r .item) (moved r (standing r .next)) (next-says 𝓤 H A mem run b r)
+        calls-method κ q b t fm item.the-row (next.clauses 𝓤 H A mem run) known r (λ _ _. tt) (λ _ _. id⊢ 𝓤 (emp 𝓤))
+        (standing r .item) (moved r (standing r .next)) (next-says 𝓤 H A mem run b r)
         (item-val r) (λ w. enum.tells item.the-type item-laws.the-laws (standing r .item) (w ∷ [])) os
         (λ is. k (enum.lawful item.the-type item-laws.the-laws 𝓤 H A W tt .typed (standing r .item) _ is .0) is)

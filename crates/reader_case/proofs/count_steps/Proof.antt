@@ -186,7 +186,8 @@ module _ {M : Type 1} (𝓤 : URA M) (H : Heap 𝓤) (A : Atoms 𝓤) (mem : Mem
 
 -- ---- the walk
 
-module _ {M : Type 1} (𝓤 : URA M) (H : Heap 𝓤) (A : Atoms 𝓤) (W : Given 𝓤 H A) (mem : Memory → SProp 𝓤) (run : Routine → Fun 𝓤) (𝓣 : Tables 𝓤 H) (known : Known 𝓤 H A mem run (𝓣 .C)) (κ : Lft) (q : Share) (log : RefT (List ℕ)) where
+module _ {M : Type 1} (𝓤 : URA M) (H : Heap 𝓤) (A : Atoms 𝓤) (W : Given 𝓤 H A) (mem : Memory → SProp 𝓤) (run : Routine → Fun 𝓤)
+    (𝓣 : Tables 𝓤 H) (known : Known 𝓤 H A mem run (𝓣 .C)) (κ : Lft) (q : Share) (log : RefT (List ℕ)) where
   abbrev C : Calls 𝓤 H
   C = 𝓣 .C
 
@@ -202,6 +203,10 @@ module _ {M : Type 1} (𝓤 : URA M) (H : Heap 𝓤) (A : Atoms 𝓤) (W : Given
 
   abbrev start : Opening
   start = openingIn (now log)
+
+  -- the machine value of the item at a state's position
+  abbrev read-val : State (now log) → Val
+  read-val s = item-val (reader-at (s .at))
 
   -- what the function has at entry, and what it has to show at its end
   abbrev v : Val
@@ -233,9 +238,12 @@ module _ {M : Type 1} (𝓤 : URA M) (H : Heap 𝓤) (A : Atoms 𝓤) (W : Given
 
   module _ (l₀ l₁ l₂ l₃ l₄ l₅ l₆ l₇ l₈ l₉ : ℕ) where
     abbrev E : Env 𝓤 H
-    E = (counts-laws.mir, l₀) ∷ (logTy, l₁) ∷ (readerTy, l₂) ∷ (opening-laws.mir, l₃) ∷ (counts-laws.mir, l₄) ∷ (item-laws.mir, l₅) ∷ (readerTy, l₆) ∷ (lentTy, l₇) ∷ (tyBool, l₈) ∷ (lentTy, l₉) ∷ []
+    E =
+        (counts-laws.mir, l₀) ∷ (logTy, l₁) ∷ (readerTy, l₂) ∷ (opening-laws.mir, l₃) ∷ (counts-laws.mir, l₄) ∷ (item-laws.mir, l₅)
+        ∷ (readerTy, l₆) ∷ (lentTy, l₇) ∷ (tyBool, l₈) ∷ (lentTy, l₉) ∷ []
 
-    -- what the walk has behind `new`: the reader in `_2`, what the log owns, c of `_4` and o of `_3`, and room for every other local
+    -- what the walk has behind `new`: the reader in `_2`, what the log owns, c of `_4` and o of `_3`, and room for every other local. It stands so:
+    -- [0, 1, 2: the reader, as `Held`; 3: what the log owns; 4: _9; 6: _8; 8: _7; 10: _6; 12: _5; 14: _4; 16: _3; 18: that _2 dies; 19: _1; 21: _0], and after each other local that it dies
     abbrev Around : Reader → (c o : Fml) → List (Item 𝓤)
     Around r c o =
         Held κ q l₂ r ++ (‵ Log ∷ ‵ (froom lentTy l₉ 0) ∷ ‵ (fdies lentTy l₉) ∷ ‵ (froom tyBool l₈ 0) ∷ ‵ (fdies tyBool l₈) ∷ ‵ (froom lentTy l₇ 0) ∷ ‵ (fdies lentTy l₇)
@@ -252,12 +260,15 @@ module _ {M : Type 1} (𝓤 : URA M) (H : Heap 𝓤) (A : Atoms 𝓤) (W : Given
 
     -- a turn behind its test, which the generated MIR has under no name
     abbrev reads : Body
-    reads = seq (assign (place 9 []) (addrOf (place 2 []))) (seq (call #next (copy (place 9 []) ∷ []) (place 5 [])) (call #with-item (copy (place 4 []) ∷ copy (place 5 []) ∷ []) (place 4 [])))
+    reads =
+        seq (assign (place 9 []) (addrOf (place 2 [])))
+        (seq (call #next (copy (place 9 []) ∷ []) (place 5 []))
+        (call #with-item (copy (place 4 []) ∷ copy (place 5 []) ∷ []) (place 4 [])))
 
     turn : (s : State (now log)) → Sq W (At s) (runs C Λ E pieces.turn-1 (anyQ (Turned s)))
     unfolding afterTurn
     turn s =
-        -- [the reader, as `Held`; what the log owns; room for _9; …; _8; …; _7; …; _6; …; _5; …; _4; …; room for _3; …; that _2 dies; room for _1; …; _0; …]
+        -- `Around` the reader at the position, with the count in _4
         -- _8 = _4.more
         assigns ! (of-opd ! (load ! (from ! (fld ! refl (stop !))) (look-in ! 14 (sub ! 2 refl (all !))))) (from ! (stop !)) (init ! 6 refl (tt, tt)) $
         first ! $ branches ! (load ! (from ! (stop !)) (look ! 6 refl))
@@ -267,15 +278,18 @@ module _ {M : Type 1} (𝓤 : URA M) (H : Heap 𝓤) (A : Atoms 𝓤) (W : Given
         calls-next κ q ! fm mem run (known .of-next) l₂ (reader-at (s .at)) (λ α γ. and-then ! (load ! (from ! (stop !)) (look ! 4 refl)) (no-more !)) (λ item-fits item-is.
         land ! (from ! (stop !)) (init ! 12 refl item-fits) $
         -- _4 = with_item(_4, _5)
-        use0 W (raw (WithItem 𝓤 H A mem run .pre (to-with 𝓤 H A mem run s (item-val (reader-at (s .at)))))) (asked-with 𝓤 H A mem run s (item-val (reader-at (s .at))) W (holds _ more) item-is) $
-        calls-at-last ! fm (WithItem 𝓤 H A mem run) (known .of-with-item) (to-with 𝓤 H A mem run s (item-val (reader-at (s .at))))
+        use0 W (raw (WithItem 𝓤 H A mem run .pre (to-with 𝓤 H A mem run s (read-val s))))
+        (asked-with 𝓤 H A mem run s (read-val s) W (holds _ more) item-is) $
+        calls-at-last ! fm (WithItem 𝓤 H A mem run) (known .of-with-item) (to-with 𝓤 H A mem run s (read-val s))
         (and-then ! (load ! (from ! (stop !)) (look ! 15 refl)) (and-then ! (load ! (from ! (stop !)) (look ! 13 refl)) (no-more !))) (λ w.
-        answered ! tt w (grown s) (with-said 𝓤 H A mem run s (item-val (reader-at (s .at)))) (λ count-fits tells count-is.
-        land-last ! (from ! (stop !)) (store ! 14 refl count-fits) $ rewrite ! 14 (λ (u : Val). ‵ (fat fullShare counts-laws.mir l₄ 0 u)) tells refl $ forget ! 4 refl $ forget ! 6 refl $ forget ! 12 refl $
+        answered ! tt w (grown s) (with-said 𝓤 H A mem run s (read-val s)) (λ count-fits tells count-is.
+        land-last ! (from ! (stop !)) (store ! 14 refl count-fits) $ rewrite ! 14 (λ (u : Val). ‵ (fat fullShare counts-laws.mir l₄ 0 u)) tells refl $
+        forget ! 4 refl $ forget ! 6 refl $ forget ! 12 refl $
         again ! (Nearer (now log)) At s (behind-item s (holds _ more) count-is) (count-fewer (now log) (s .at) (s .count) (holds _ more))))))
         (λ over. jumps ! $ exec ! C Λ E pieces.t-7 (atRet E AtEnd) $
         -- _0 = _4; return
-        assigns ! (of-opd ! (load ! (from ! (stop !)) (look ! 14 refl))) (from ! (stop !)) (init ! 21 refl (struct.lawful counts.the-type counts-laws.the-laws 𝓤 H A W .typed (s .count) _ (s .is) .0)) $
+        assigns ! (of-opd ! (load ! (from ! (stop !)) (look ! 14 refl))) (from ! (stop !))
+        (init ! 21 refl (struct.lawful counts.the-type counts-laws.the-laws 𝓤 H A W .typed (s .count) _ (s .is) .0)) $
         returns ! (look ! 21 refl) $ forget ! 0 refl $ forget ! 6 refl $ forget ! 14 refl $ forget ! 21 refl $
         move ! (21 ∷ 22 ∷ []) $ free1 ! $ move ! (19 ∷ 20 ∷ []) $ free1 ! $ move ! (0 ∷ 18 ∷ []) $ free1 ! $ move ! (15 ∷ 16 ∷ []) $ free1 ! $ move ! (13 ∷ 14 ∷ []) $ free1 ! $
         move ! (11 ∷ 12 ∷ []) $ free1 ! $ move ! (9 ∷ 10 ∷ []) $ free1 ! $ move ! (7 ∷ 8 ∷ []) $ free1 ! $ move ! (5 ∷ 6 ∷ []) $ free1 ! $ move ! (3 ∷ 4 ∷ []) $ free1 ! $ free0 ! $
@@ -285,8 +299,10 @@ module _ {M : Type 1} (𝓤 : URA M) (H : Heap 𝓤) (A : Atoms 𝓤) (W : Given
     counts-on : Is opening.the-row start (opened-val (at-start log) ∷ [])
         → Sq W (Around (reader-at (start .next)) (froom counts-laws.mir l₄ 0) (fat fullShare opening-laws.mir l₃ 0 (opened-val (at-start log)))) (runs C Λ E pieces.t-5 (atRet E AtEnd))
     counts-on is =
+        -- `Around` the reader behind the opening, with the opening in _3
         -- _4 = count_from(_3.refusal)
-        use0 W (raw (CountFrom 𝓤 H A mem run .pre (to-from 𝓤 H A mem run (start .refusal)))) (asked-from 𝓤 H A mem run (start .refusal) W (struct.owed opening.the-type opening-laws.the-laws start _ is .1 .0 .1)) $
+        use0 W (raw (CountFrom 𝓤 H A mem run .pre (to-from 𝓤 H A mem run (start .refusal))))
+        (asked-from 𝓤 H A mem run (start .refusal) W (struct.owed opening.the-type opening-laws.the-laws start _ is .1 .0 .1)) $
         calls-at ! fm (CountFrom 𝓤 H A mem run) (known .of-count-from) (to-from 𝓤 H A mem run (start .refusal))
         (and-then ! (load ! (from ! (fld ! refl (stop !))) (look-in ! 17 (sub ! 1 refl (all !)))) (no-more !)) (λ w.
         answered ! tt w (opened (start .refusal)) (from-said 𝓤 H A mem run (start .refusal)) (λ count-fits tells count-is.
@@ -296,6 +312,7 @@ module _ {M : Type 1} (𝓤 : URA M) (H : Heap 𝓤) (A : Atoms 𝓤) (W : Given
 
     opens-on : Sq W (Around (at-start log) (froom counts-laws.mir l₄ 0) (froom opening-laws.mir l₃ 0)) (runs C Λ E pieces.t-3 (atRet E AtEnd))
     opens-on =
+        -- `Around` the reader at the log's start
         -- _7 = &mut _2; _3 = open(_7)
         assigns ! (addr ! (from ! (stop !))) (from ! (stop !)) (init ! 8 refl (tt, tt)) $
         calls-open κ q ! fm mem run (known .of-open) l₂ (at-start log) (λ α γ. and-then ! (load ! (from ! (stop !)) (look ! 8 refl)) (no-more !)) (λ opening-fits opening-is.
