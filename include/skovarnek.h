@@ -1,7 +1,7 @@
 /* Skovarnek: checks a packed log of Streamlet steps and writes a report of it.
  *
- * The report is proved to be the one that the rules lay down, for every log and every buffer; docs/ARCHITECTURE.md says where the rules
- * stand, and docs/LOG-FORMAT.md how a log is written. Link with libskovarnek.a or libskovarnek.so.
+ * The report is proved to be the one that the rules lay down, for every log and every buffer. docs/RULES.md has the rules and every number of a
+ * report in plain words, docs/LOG-FORMAT.md says how a log is written. Link with libskovarnek.a or libskovarnek.so.
  *
  * The platform is Linux on x86-64, any such processor, with the System V calling convention. The code is position-independent and takes memcpy and
  * memset from the C library, and nothing else from anywhere; a shared library built with glibc runs with glibc 2.14 or newer.

@@ -1,9 +1,10 @@
 //! The tables and examples of docs/RULES.md and docs/LOG-FORMAT.md, against the
 //! code: the proved code's own text, this package, and (feature `proved`) what
-//! the proved checker answers.
+//! the proved checker answers; and the pieces of Rattle in README.md.
 
 mod examples;
 mod numbers;
+mod pieces;
 mod widths;
 mod worked;
 

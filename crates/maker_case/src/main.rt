@@ -2,7 +2,6 @@
 mod logs;
 mod registers;
 
-use libc::STDOUT_FILENO;
 use logs::first_item;
 use logs::run_log;
 use logs::whole_check;
@@ -13,49 +12,43 @@ use register::Message;
 use register::Office;
 use registers::first_step;
 use registers::print_block;
+use registers::print_number;
 use registers::waits_for;
 
 // The log of two steps has so many bytes.
 const LOG_SIZE: usize = 12;
 
-// Prints a word and a number.
-fn named(name: &[u8], n: u64) {
-    io::write_all(STDOUT_FILENO, name);
-    io::print_decimal(STDOUT_FILENO, n);
-    io::write_all(STDOUT_FILENO, b"\n");
-}
-
-// A register: office 0 has proposed block 1; the proposal waits for nobody before it is delivered.
+// A register: office 0 has proposed block 1. The proposal waits for office 1 once it is delivered, and not before.
 fn show_register() {
     let stepped = first_step();
-    named(b"refusal ", stepped.refusal as u64);
-    named(b"message ", stepped.value as u64);
+    print_number(b"refusal ", stepped.refusal as u64);
+    print_number(b"message ", stepped.value as u64);
     let register = stepped.register;
     print_block(register, Office(0), Block(1));
-    named(b"waits ", waits_for(register, Office(1), Message(0)) as u64);
+    print_number(b"waits ", waits_for(register, Office(1), Message(0)) as u64);
     let delivered = register.deliver(Message(0), Office(1));
     let register = delivered.register;
-    named(b"waits ", waits_for(register, Office(1), Message(0)) as u64);
+    print_number(b"waits ", waits_for(register, Office(1), Message(0)) as u64);
 }
 
-// A log of the same two steps.
+// A log of the same two steps, which fills its buffer.
 fn show_log() {
     let mut buf = [0u8; LOG_SIZE];
     let wrote = write_log(&mut buf);
-    named(b"refusal ", wrote.refusal as u64);
-    named(b"bits ", wrote.next as u64);
+    print_number(b"refusal ", wrote.refusal as u64);
+    print_number(b"bits ", wrote.next as u64);
     let log = &buf;
     let read = first_item(log);
     let item = read.item;
     match item {
-        Item::Step(step) => named(b"a step, then ", read.next as u64),
-        Item::End => named(b"the end, then ", read.next as u64),
-        Item::Refused(number) => named(b"refused ", number as u64),
+        Item::Step(step) => print_number(b"a step, then ", read.next as u64),
+        Item::End => print_number(b"the end, then ", read.next as u64),
+        Item::Refused(number) => print_number(b"refused ", number as u64),
     }
     let register = run_log(log);
-    named(b"messages ", register.count as u64);
+    print_number(b"messages ", register.count as u64);
     let mut report = [0u8; 1000];
-    named(b"report ", whole_check(log, &mut report) as u64);
+    print_number(b"report ", whole_check(log, &mut report) as u64);
 }
 
 fn main() {

@@ -36,7 +36,7 @@ pub fn print_block(register: Register, office: Office, b: Block) {
 }
 
 // Prints a word and a number.
-fn print_number(name: &[u8], n: u64) {
+pub fn print_number(name: &[u8], n: u64) {
     io::write_all(STDOUT_FILENO, name);
     io::print_decimal(STDOUT_FILENO, n);
     io::write_all(STDOUT_FILENO, b"\n");

@@ -74,4 +74,4 @@ pub count-few : (log : List ℕ) (c : Count) (rest : Body) → c .more ≡ true 
 unfolding whole choose countOf bodyOf
 count-few log c rest more is =
     let total : c .steps + length (rest .steps) ≡ countOf log .steps = ap (λ (x : Count). x .steps) (rw more at is) in
-    omega (arith, total, chosen (eqb (openingIn log .refusal) 0) (length (bodyOf log .steps)) (body-few log (openingIn log .next)))
+    omega (arith, total, chosen (eqb (openingIn log .refusal) 0) (length (bodyOf log .steps)) (omega (arith, body-few log (openingIn log .next))))

@@ -1,0 +1,54 @@
+//! The pieces of Rattle in the README: each stands in a program that is proved.
+
+use super::text_of;
+
+/// The programs' files that the pieces are from.
+const FILES: [&str; 3] = [
+    "crates/maker_case/src/registers.rt",
+    "crates/maker_case/src/logs.rt",
+    "crates/reader_case/src/main.rt",
+];
+
+/// The README's pieces of Rattle.
+fn pieces() -> Vec<String> {
+    let text = text_of("README.md");
+    let behind = text.split("```rattle\n").skip(1);
+    let piece = |behind: &str| behind.split_once("```").expect("an end").0.to_string();
+    behind.map(piece).collect()
+}
+
+/// The lines of `use`, and each function with its comment, stand in one file. The
+/// file may have other lines of `use` between these.
+fn stands_in(piece: &str, file: &str) -> bool {
+    let code = text_of(file);
+    piece.split("\n\n").all(|part| {
+        let part = part.trim_end();
+        let whole = |part: &str| format!("\n{code}\n").contains(&format!("\n{part}\n"));
+        if part.starts_with("use ") {
+            part.lines().all(whole)
+        } else {
+            whole(part)
+        }
+    })
+}
+
+#[test]
+fn pieces_stand_in_proved_programs() {
+    let pieces = pieces();
+    assert_eq!(pieces.len(), 6);
+    for piece in pieces {
+        assert!(piece.starts_with("use "), "no line of use: {piece}");
+        let stands = FILES.iter().any(|file| stands_in(&piece, file));
+        assert!(stands, "in no program: {piece}");
+    }
+}
+
+/// The README has no other Rattle: what is indented is commands or reports.
+#[test]
+fn no_other_pieces() {
+    let text = text_of("README.md");
+    let outside = text.split("```").step_by(2).flat_map(str::lines);
+    for line in outside.filter(|line| line.starts_with("    ")) {
+        assert!(!line.contains("let ") && !line.contains("fn "), "{line}");
+    }
+}
