@@ -12,6 +12,7 @@ use register::Message;
 use register::Office;
 use registers::first_step;
 use registers::print_block;
+use registers::print_message;
 use registers::print_number;
 use registers::waits_for;
 
@@ -25,6 +26,7 @@ fn show_register() {
     print_number(b"message ", stepped.value as u64);
     let register = stepped.register;
     print_block(register, Office(0), Block(1));
+    print_message(register, Message(0));
     print_number(b"waits ", waits_for(register, Office(1), Message(0)) as u64);
     let delivered = register.deliver(Message(0), Office(1));
     let register = delivered.register;

@@ -1,6 +1,7 @@
 // A register: opened, stepped and read.
 use libc::STDOUT_FILENO;
 use register::Block;
+use register::Kind;
 use register::Message;
 use register::Office;
 use register::Register;
@@ -21,6 +22,18 @@ pub fn waits_for(register: Register, office: Office, m: Message) -> bool {
         Stage::Inbox => true,
         _ => false,
     }
+}
+
+// Prints what a message says, and who leads its block's epoch.
+pub fn print_message(register: Register, m: Message) {
+    let content = register.content(m);
+    let kind = content.kind;
+    match kind {
+        Kind::Proposal => print_number(b"proposal of office ", content.signer.0 as u64),
+        Kind::Vote => print_number(b"vote of office ", content.signer.0 as u64),
+    }
+    let header = register.header(content.about);
+    print_number(b"leader ", register.leader(header.epoch).0 as u64);
 }
 
 // Prints what a block is made of, and what an office sees of it.

@@ -28,7 +28,7 @@ leaderOf r e = getD (r .leaders) (e - 1) 0
 abbrev pub scheduledIn : (scheduled : ℕ) → ℕ → Bool
 scheduledIn scheduled e = both (between 1 scheduled e) (leb e mostEpochs)
 
--- the leader that is told of an epoch; office 0 for one that the schedule has not
+-- the leader that is told of an epoch; office 0 for one that is not in the schedule
 unfoldable pub leaderFor : Book → ℕ → Office
 leaderFor r e = office (choose (scheduledIn (r .scheduled) e) (leaderOf r e) 0)
 
@@ -99,7 +99,7 @@ contentOf r m =
 abbrev pub sentIn : (count : ℕ) → ℕ → Bool
 sentIn count m = both (ltb m count) (ltb m mostMessages)
 
--- what is told of message m; of a number that was not sent, a proposal of office 0 about genesis, which no message is
+-- what is told of message m; of a number that was not sent, a proposal of office 0 about genesis, as none of a fit book is
 unfoldable pub contentFor : Book → ℕ → Content
 contentFor r m =
     choose (sentIn (r .count) m) (contentOf r m) (record { kind = Kind.Proposal; signer = office 0; about = block 0 })

@@ -58,7 +58,7 @@ fn stage_numbered(number: u8) -> Stage
 }
 
 impl Register {
-    // The leader of an epoch; office 0 for an epoch that the schedule has not.
+    // The leader of an epoch; office 0 for an epoch that is not in the schedule.
     pub fn leader(self, epoch: Epoch) -> Office
         ensures { λ r. ⌜ r ≡ leaderFor (bookOf self) (epoch .0) ⌝ }
     {
@@ -89,7 +89,8 @@ impl Register {
         }
     }
 
-    // A message's kind, signer and block; of a number that was not sent, a proposal of office 0 about genesis, which no message is.
+    // A message's kind, signer and block; of a number that was not sent, a proposal of office 0 about genesis, as none of a fit
+    // register is.
     pub fn content(self, message: Message) -> Content
         ensures { λ r. ⌜ r ≡ contentFor (bookOf self) (message .0) ⌝ }
     {
