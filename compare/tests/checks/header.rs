@@ -7,6 +7,10 @@ use std::path::Path;
 
 pub const HEADER: &str = "include/skovarnek.h";
 
+/// Where the contract's bound and the lengths of lines stand.
+const REPORTS: &str = "crates/report/specs/Reports.antt";
+const LINES: &str = "crates/report/specs/Text.antt";
+
 /// The number that stands behind these words in a file of the repository.
 pub fn number_in(path: &str, words: &str) -> usize {
     let path = Path::new(env!("CARGO_MANIFEST_DIR")).join("..").join(path);
@@ -30,12 +34,16 @@ fn longest_report() {
     assert_eq!(header, code);
 }
 
-/// Two lines of 17 bytes for each byte of the log, and 32 lines of 22.
+/// The bound is that of the call's contract: so many steps for each byte of the
+/// log, and so many offices, each with the bytes of its line.
 #[test]
 fn bound_of_a_report() {
     let for_each_byte = number_in(HEADER, "SKOVARNEK_LONGEST_LOG ? ");
     let for_offices = number_in(HEADER, "(size_t)(log_len) + ");
-    assert_eq!((for_each_byte, for_offices), (2 * 17, 32 * 22));
+    let steps = number_in(REPORTS, "mostSteps size = ");
+    let offices = number_in(REPORTS, "mostSteps size * stepBytes + ");
+    assert_eq!(for_each_byte, steps * number_in(LINES, "stepBytes = "));
+    assert_eq!(for_offices, offices * number_in(LINES, "officeBytes = "));
     for length in [0, 1, 53, LONGEST_LOG - 1, LONGEST_LOG] {
         let header = for_each_byte * length + for_offices;
         assert_eq!(header, report_bound(length));
