@@ -9,7 +9,8 @@
 //! - [`refusal`]: the numbers of refusal with their words.
 //! - [`packed`]: reading and writing a packed log.
 //! - [`report`]: the whole check, log bytes to report bytes.
-//! - [`text`]: a log as readable text and back; a report explained.
+//! - [`text`]: a log as readable text and back; packed logs and texts told apart.
+//! - [`explain`]: the report explained: why a step is refused, what it changes.
 //! - [`generate`]: logs made from seeds, to compare and to measure with.
 //! - `proved`: the proved checker's C call (feature `proved`).
 //!
@@ -22,6 +23,7 @@
 //! proved --bin bench` measures both on long logs. `--bin reports` writes the
 //! proved checker's reports, to compare two builds of it.
 
+pub mod explain;
 pub mod generate;
 pub mod packed;
 #[cfg(feature = "proved")]

@@ -13,10 +13,12 @@
 //! The end is the text's end. Empty lines, and what stands behind a `#`, say
 //! nothing.
 
-mod explain;
+mod given;
 mod parse;
+mod slips;
 
-pub use explain::explain;
+pub(crate) use given::given_text;
+pub use given::{Form, Given, form, given};
 pub use parse::{BadText, parse};
 
 use crate::packed::{Item, Log, Reader};

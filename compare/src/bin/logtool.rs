@@ -1,6 +1,7 @@
 //! Packed logs for people: `logtool text < log`, `logtool log < text` and
-//! `logtool explain < log`.
+//! `logtool explain < log or text`.
 
+use skovarnek_compare::explain;
 use skovarnek_compare::packed::write_log;
 use skovarnek_compare::report::EMPTY;
 use skovarnek_compare::text;
@@ -11,7 +12,7 @@ use std::process::ExitCode;
 const USAGE: &str = "\
 usage: logtool text < log       the log as text
        logtool log < text       the text as a packed log
-       logtool explain < log    the report, each line with its meaning";
+       logtool explain < either of them    the report, each line with its reason";
 
 fn main() -> ExitCode {
     let arguments: Vec<String> = env::args().skip(1).collect();
@@ -55,7 +56,7 @@ fn to_log() -> Result<(), String> {
 }
 
 fn explain() -> Result<(), String> {
-    output(text::explain(&input()?).as_bytes())
+    output(explain::explain(&input()?)?.as_bytes())
 }
 
 fn input() -> Result<Vec<u8>, String> {
