@@ -11,6 +11,7 @@ mod counts;
 mod coverage;
 mod decided;
 mod documents;
+mod explain;
 mod forks;
 mod header;
 mod heavy;
