@@ -2,7 +2,7 @@
 //! `logtool explain < log or text`.
 
 use skovarnek_compare::explain;
-use skovarnek_compare::packed::write_log;
+use skovarnek_compare::packed::{read_log, write_log};
 use skovarnek_compare::report::EMPTY;
 use skovarnek_compare::text;
 use std::env;
@@ -12,7 +12,7 @@ use std::process::ExitCode;
 const USAGE: &str = "\
 usage: logtool text < log       the log as text
        logtool log < text       the text as a packed log
-       logtool explain < either of them    the report, each line with its reason";
+       logtool explain < log    the report, each line with its reason; of a text too";
 
 fn main() -> ExitCode {
     let arguments: Vec<String> = env::args().skip(1).collect();
@@ -34,9 +34,12 @@ fn main() -> ExitCode {
 
 /// A log that doesn't read gives its text as far as it reads, and the fault
 /// behind a `#`. A log of no bytes has no fault: behind the `#` stands what it
-/// means.
+/// means. A text is no log with a fault.
 fn to_text() -> Result<(), String> {
     let log = input()?;
+    if text::form(&log) == text::Form::Text {
+        return Err("this is text, not a packed log".to_string());
+    }
     if log.is_empty() {
         return output(format!("# {EMPTY}, {}\n", text::NO_LOG).as_bytes());
     }
@@ -50,7 +53,11 @@ fn to_text() -> Result<(), String> {
 }
 
 fn to_log() -> Result<(), String> {
-    let text = String::from_utf8(input()?).map_err(|_| "the text isn't UTF-8".to_string())?;
+    let input = input()?;
+    if read_log(&input).is_ok() {
+        return Err("this is a packed log, not text".to_string());
+    }
+    let text = String::from_utf8(input).map_err(|_| "the text isn't UTF-8".to_string())?;
     let log = text::parse(&text).map_err(|bad| bad.to_string())?;
     output(&write_log(&log.opening, &log.steps))
 }

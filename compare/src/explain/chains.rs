@@ -25,10 +25,9 @@ impl Standing {
         };
         for block in (1..=register.last_block().0).map(Block) {
             let parent = register.block(block).parent;
-            let notarised = view.notarised(block).holds;
-            let above = register.block(block).epoch > register.block(parent).epoch;
-            let below = standing.lengths[parent.index()].filter(|_| notarised && above);
-            standing.notarised.push(notarised);
+            let is_link = is_link(&view, register, block);
+            let below = standing.lengths[parent.index()].filter(|_| is_link);
+            standing.notarised.push(view.notarised(block).holds);
             standing.lengths.push(below.map(|length| length + 1));
         }
         standing
@@ -82,7 +81,10 @@ pub fn chain_name(register: &Register, last: Block) -> String {
 /// Which signers a block lacks, who has signed it in the view, and whose
 /// signatures have been sent but are not in the view.
 pub fn lack(register: &Register, office: Office, block: Block) -> String {
-    let view = register.view(office);
+    lack_in(&register.view(office), register, office, block)
+}
+
+fn lack_in(view: &View, register: &Register, office: Office, block: Block) -> String {
     let needed = needed(register.n());
     let lacks = needed - view.notarised(block).signers;
     let word = view.signers(block);
@@ -112,17 +114,22 @@ fn signed_outside(register: &Register, office: Office, block: Block) -> u32 {
 }
 
 /// What keeps a chain from being notarised in an office's view, the newest
-/// blocks first; nothing if it is.
+/// blocks first; nothing if it is. In a run of the right rules it is always
+/// signers: a block that is not of a greater epoch than its parent is never
+/// notarised, since no trusted office signs it.
 pub fn chain_faults(register: &Register, office: Office, last: Block) -> Option<String> {
     let view = register.view(office);
-    let chain = chain(register, last);
-    let newest_first = chain.iter().rev();
-    let mut faults = newest_first.filter_map(|&block| link_fault(register, &view, office, block));
-    let mut named: Vec<String> = faults.by_ref().take(NAMED_FAULTS).collect();
-    match faults.count() {
+    let mut failing = chain(register, last);
+    failing.retain(|&block| !is_link(&view, register, block));
+    failing.reverse();
+    let more = failing.len().saturating_sub(NAMED_FAULTS);
+    failing.truncate(NAMED_FAULTS);
+    let fault = |&block: &Block| link_fault(&view, register, office, block);
+    let mut named: Vec<String> = failing.iter().map(fault).collect();
+    match more {
         0 => (),
         1 => named.push("1 more block fails".to_string()),
-        more => named.push(format!("{more} more blocks fail")),
+        _ => named.push(format!("{more} more blocks fail")),
     }
     match named.is_empty() {
         true => None,
@@ -130,17 +137,22 @@ pub fn chain_faults(register: &Register, office: Office, last: Block) -> Option<
     }
 }
 
-fn link_fault(register: &Register, view: &View, office: Office, block: Block) -> Option<String> {
+/// A block that can stand in a notarised chain.
+fn is_link(view: &View, register: &Register, block: Block) -> bool {
     let record = register.block(block);
-    let (epoch, below) = (record.epoch, register.block(record.parent).epoch);
+    view.notarised(block).holds && record.epoch > register.block(record.parent).epoch
+}
+
+fn link_fault(view: &View, register: &Register, office: Office, block: Block) -> String {
     if !view.notarised(block).holds {
-        return Some(lack(register, office, block));
+        return lack_in(view, register, office, block);
     }
-    (epoch <= below).then(|| {
-        let parent = block_name(record.parent);
-        format!(
-            "block {} is of epoch {}, not above that of {parent}, {}",
-            block.0, epoch.0, below.0
-        )
-    })
+    let record = register.block(block);
+    format!(
+        "block {} is of epoch {}, not above that of {}, {}",
+        block.0,
+        record.epoch.0,
+        block_name(record.parent),
+        register.block(record.parent).epoch.0
+    )
 }

@@ -196,12 +196,10 @@ fn made_final(register: &Register, office: Office, b: Block, before: &Before) ->
 fn sent_badly(register: &Register, sent: Message) -> Vec<String> {
     let record = register.message(sent);
     let earlier = all_messages(register).find(|&old| register.message(old) == record);
-    let mut notes = vec![format!(
-        "message {} is {}, {}",
-        sent.0,
-        said(register, sent),
-        in_transit_to(register, sent)
-    )];
+    let mut notes = vec![
+        format!("message {} is {}", sent.0, said(register, sent)),
+        format!("it is {}", in_transit_to(register, sent)),
+    ];
     if let Some(old) = earlier.filter(|&old| old != sent) {
         notes.push(format!(
             "it says the same as message {}: sent again, not forged",

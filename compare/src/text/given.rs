@@ -7,7 +7,8 @@
 //! - they have no control characters but tabs and line ends, and some line of
 //!   them starts with such a word or nearly one; or
 //! - they have no such characters and say nothing: five bytes or more of comments
-//!   and blanks.
+//!   and blanks; or
+//! - they have no such characters, are UTF-8, and are sixteen bytes or more.
 //!
 //! All else is a packed log with a fault.
 //!
@@ -26,7 +27,10 @@
 //!
 //! Why no damaged log is taken for text. It would have to spell out such a word.
 //! None of the words, nor one with a slip, begins a log with a good opening, and
-//! by the above no five bytes of comments and blanks do.
+//! by the above no five bytes of comments and blanks do. Control characters are in
+//! every log, but for some that are made not to have them: the first byte of a log
+//! of 1 to 7 offices is one, unless its trust is refused, and bytes that start with
+//! 000 are, which small numbers in wide fields bring.
 
 use super::parse::{BadText, OPENING_LINES, parse, words_and_comment};
 use super::slips::{is_nearly_a_word, is_word};
@@ -52,6 +56,7 @@ pub enum Form {
 
 /// No log with a good opening starts with this many bytes of comments and blanks.
 const SURELY_COMMENT: usize = 5;
+const SURELY_TEXT: usize = 16;
 
 /// The log in these bytes, packed or as text, or what is wrong with them.
 pub fn given(bytes: &[u8]) -> Result<Given, String> {
@@ -123,7 +128,15 @@ fn is_text(bytes: &[u8]) -> bool {
         return has_no_control(bytes) && bytes.len() >= SURELY_COMMENT;
     };
     is_word(first)
-        || has_no_control(bytes) && (is_nearly_a_word(first) || first_words.any(is_nearly_a_word))
+        || has_no_control(bytes)
+            && (is_nearly_a_word(first)
+                || first_words.any(is_nearly_a_word)
+                || is_surely_text(bytes))
+}
+
+/// So many characters without a control character among them are no log.
+fn is_surely_text(bytes: &[u8]) -> bool {
+    bytes.len() >= SURELY_TEXT && std::str::from_utf8(bytes).is_ok()
 }
 
 fn first_word(line: &str) -> Option<&str> {

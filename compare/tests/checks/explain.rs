@@ -436,14 +436,12 @@ fn a_chain_with_a_gap() {
          office 2: block 1 lacks 1 of the 3 signers needed (signers: 0, 2; sent, but not in the \
          view: 1)",
     );
-    let text = format!(
-        "offices 4; trusted 0 1 2; leaders 0 3; propose 0 0 1; deliver 0 1; vote 1 0; deliver 0 2; \
+    let text = "offices 4; trusted 0 1 2; leaders 0 3; propose 0 0 1; deliver 0 1; vote 1 0; deliver 0 2; \
          vote 2 0; deliver 2 1; register 1 2; advance; draft 1 2 2; bad-send 3 proposal 3 2; \
          bad-send 3 vote 3 2; deliver 3 1; vote 1 3; deliver 1 2; register 2 1; deliver 3 2; vote 2 3; \
-         deliver 4 0; register 0 4; deliver 5 0; register 0 5; deliver 6 0; register 0 6"
-    );
+         deliver 4 0; register 0 4; deliver 5 0; register 0 5; deliver 6 0; register 0 6";
     assert_changes(
-        &text,
+        text,
         &[
             "accepted: message 6, a vote of office 2 for block 2, is in office 0's view",
             "block 2 is now notarised for office 0: signers 1, 2, 3; 3 of 4",
@@ -476,7 +474,8 @@ fn what_the_others_change() {
     assert_changes(
         &text,
         &[
-            "accepted: message 1 is a proposal of office 0 for block 1, in transit to offices 0, 1, 2",
+            "accepted: message 1 is a proposal of office 0 for block 1",
+            "it is in transit to offices 0, 1, 2",
             "it says the same as message 0: sent again, not forged",
         ],
     );
@@ -518,7 +517,7 @@ office 2 0 0 4               nothing final but genesis
 fn generated_logs() {
     let meanings: Vec<&str> = TABLE.iter().map(|&(_, meaning)| meaning).collect();
     let mut texts = 0;
-    for seed in seeds().take(1000) {
+    for seed in seeds().take(300) {
         let bytes = generate::log(seed);
         let explained = explain(&bytes).expect("a packed log");
         let Ok(log) = read_log(&bytes) else {

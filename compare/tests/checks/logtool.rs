@@ -171,4 +171,25 @@ fn bad_input() {
     let message = words(&log.stderr);
     assert_eq!(message, "line 4: vote needs a message after office 1\n");
     assert!(!logtool("dance", b"").status.success());
+    let slip = logtool(
+        "explain",
+        b"offices 3\ntrusted 0 1 2\nleaders 0\nvoet 1 0\n",
+    );
+    assert!(!slip.status.success());
+    assert!(slip.stdout.is_empty());
+    let message = "line 4: no step `voet`; did you mean `vote`?\n";
+    assert_eq!(words(&slip.stderr), message);
+}
+
+/// A log where a text is due, and the other way round.
+#[test]
+fn the_other_form() {
+    let whole = cases::all().swap_remove(0).log;
+    let log = logtool("log", &whole);
+    assert!(!log.status.success());
+    assert_eq!(words(&log.stderr), "this is a packed log, not text\n");
+    let text = logtool("text", &fs::read(sample("whole-case.txt")).expect("a text"));
+    assert!(!text.status.success());
+    assert!(text.stdout.is_empty());
+    assert_eq!(words(&text.stderr), "this is text, not a packed log\n");
 }

@@ -58,7 +58,7 @@ fn no_packed_log_is_text() {
 #[test]
 fn no_text_is_a_packed_log() {
     let mut texts = 0;
-    for seed in seeds() {
+    for seed in seeds().take(1000) {
         if let Ok(log) = read_log(&generate::log(seed)) {
             let text = log_text(&log);
             assert_eq!(form(text.as_bytes()), Form::Text, "seed {seed}");
@@ -150,7 +150,11 @@ fn texts_that_are_no_log() {
     let opening = "offices 1\ntrusted 0\nleaders 0\n";
     let due = "`offices` is due here, not";
     let start = "a text starts with offices, trusted, leaders";
-    let cases: [(Vec<u8>, String); 9] = [
+    let cases: [(Vec<u8>, String); 10] = [
+        (
+            b"Dear offices, hello\n".to_vec(),
+            format!("line 1: {due} `Dear`: {start}"),
+        ),
         (
             b"# nothing yet\n".to_vec(),
             "line 2: the text ends where `offices` is due".into(),
