@@ -10,7 +10,8 @@
 //!   and blanks; or
 //! - they have no such characters, are UTF-8, and are sixteen bytes or more.
 //!
-//! All else is a packed log with a fault.
+//! All else is a packed log with a fault. (Text in UTF-16 that starts with its mark
+//! is text too, and told that it must be UTF-8: the mark makes 63 offices.)
 //!
 //! Why no text is taken for a packed log. The end of a packed log is four zero
 //! bits or more, so its last byte is a multiple of 16, and a line's end is none.
@@ -21,9 +22,9 @@
 //! others trusted only if a byte follows that is in no UTF-8. What starts with `#`
 //! has 8 offices too. A schedule of less than 4 would need a control character
 //! (byte 2). In a longer one the third and the fourth leader are below 8 only if
-//! byte 4 starts with 000 or 100 and ends in 00: no tab, no line's end, no letter;
-//! and where bytes 1 to 4 are of a longer character, the first leader or the third
-//! is 8 or more.
+//! byte 4 starts with 000 or 100 and ends in 00: no tab, no line's end, no letter.
+//! A part of a longer character may be such a byte; but then byte 3 is a part of
+//! it too, and makes the first leader 8 or more.
 //!
 //! Why no damaged log is taken for text. It would have to spell out such a word.
 //! None of the words, nor one with a slip, begins a log with a good opening, and
@@ -114,10 +115,26 @@ fn comments(text: &str) -> Vec<Vec<String>> {
 
 /// Whether bytes are a packed log or text.
 pub fn form(bytes: &[u8]) -> Form {
-    match !bytes.is_empty() && read_log(bytes).is_err() && is_text(bytes) {
+    let no_log = !bytes.is_empty() && read_log(bytes).is_err();
+    match no_log && (is_text(bytes) || is_utf16_text(bytes)) {
         true => Form::Text,
         false => Form::Packed,
     }
+}
+
+/// Text as some editors and shells write it, with a mark that says in which order
+/// the bytes stand.
+fn is_utf16_text(bytes: &[u8]) -> bool {
+    let order = match bytes {
+        [0xFF, 0xFE, ..] => u16::from_le_bytes,
+        [0xFE, 0xFF, ..] => u16::from_be_bytes,
+        _ => return false,
+    };
+    let pairs = bytes[2..].chunks_exact(2);
+    let units: Vec<u16> = pairs.map(|pair| order([pair[0], pair[1]])).collect();
+    let text = String::from_utf16_lossy(&units);
+    let mut first_words = text.lines().filter_map(first_word);
+    first_words.next().is_some_and(is_nearly_a_word)
 }
 
 fn is_text(bytes: &[u8]) -> bool {

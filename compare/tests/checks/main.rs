@@ -1,9 +1,9 @@
 //! The tests: hand-written cases, what the generated logs bring, what the logs
 //! to measure with are, that final chains agree and never go back, who has
-//! signed a block and how many have, the text form, the tool, the C header's
-//! numbers, the tables and examples of the documents, and (feature `proved`) the
-//! comparison of both checkers and the proved program, or a word that it is left
-//! out.
+//! signed a block and how many have, the text form, the explained report, the
+//! tool, the C header's numbers, the tables and examples of the documents, and
+//! (feature `proved`) the comparison of both checkers and the proved program, or
+//! a word that it is left out.
 
 mod agreement;
 mod cases;

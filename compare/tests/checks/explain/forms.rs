@@ -115,6 +115,36 @@ fn no_word_begins_a_log() {
     }
 }
 
+/// The same of what starts with a space or with `#`, if it is UTF-8 and its only
+/// control characters are tabs and line ends.
+#[test]
+fn no_comment_begins_a_log() {
+    let plain = |byte: &u8| byte.is_ascii_graphic() || b" \t\n\r".contains(byte) || *byte >= 0x80;
+    let bytes: Vec<u8> = (0..=0xF4).filter(plain).collect();
+    for &one in &bytes {
+        assert!(begins_no_log(&[b' ', one]), "{one}");
+        for &two in &bytes {
+            if begins_no_log(&[b'#', one, two]) {
+                continue;
+            }
+            // 8 offices, so the leaders start at bit 23.
+            assert!(usize::from(one & 3) << 7 | usize::from(two >> 1) >= 4);
+            for &four in &bytes {
+                let third = four >> 2 & 31;
+                let fourth = (four & 3) << 3;
+                if third < 8 && fourth < 8 {
+                    // Not the first byte of a character, so byte 3 is of it too.
+                    assert!((0x80..0xC0).contains(&four));
+                    for three in 0x80..=0xF4 {
+                        let first = (two & 1) << 4 | three >> 4;
+                        assert!(first >= 8);
+                    }
+                }
+            }
+        }
+    }
+}
+
 /// A text with a slip gets its line, wherever the slip is, and never a verdict on
 /// a packed log.
 #[test]
@@ -198,9 +228,18 @@ fn texts_that_are_no_log() {
     }
 }
 
-/// A mark of UTF-8 at the start says nothing.
+/// A mark of UTF-8 at the start says nothing. UTF-16 is called by its name, and is
+/// no log of 63 offices.
 #[test]
 fn a_text_with_a_mark() {
+    let units = "\u{feff}offices 1\r\ntrusted 0\r\n".encode_utf16();
+    let little: Vec<u8> = units.clone().flat_map(u16::to_le_bytes).collect();
+    let big: Vec<u8> = units.flat_map(u16::to_be_bytes).collect();
+    let message = "line 1: a character that isn't UTF-8; save the text as UTF-8";
+    assert_eq!(explain(&little), Err(message.to_string()));
+    assert_eq!(explain(&big), Err(message.to_string()));
+    let no_text = explain(&[0xFF, 0xFE, 0x00, 0x00]).expect("a packed log");
+    assert!(no_text.starts_with("log 1 "));
     let text = "offices 1\ntrusted 0\nleaders 0\nadvance\n";
     let marked = format!("\u{feff}{text}");
     assert_eq!(explain(marked.as_bytes()), explain(text.as_bytes()));
