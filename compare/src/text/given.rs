@@ -6,8 +6,8 @@
 //! - their first word that is no comment is one of a text's words; or
 //! - they have no control characters but tabs and line ends, and some line of
 //!   them starts with such a word or nearly one; or
-//! - they have no such characters and say nothing: five bytes or more of comments
-//!   and blanks; or
+//! - they have no such characters, are UTF-8, and say nothing: five bytes or more
+//!   of comments and blanks, up to a line's end; or
 //! - they have no such characters, are UTF-8, and are sixteen bytes or more.
 //!
 //! All else is a packed log with a fault. (Text in UTF-16 that starts with its mark
@@ -142,13 +142,19 @@ fn is_text(bytes: &[u8]) -> bool {
     let text = text.strip_prefix('\u{feff}').unwrap_or(&text);
     let mut first_words = text.lines().filter_map(first_word);
     let Some(first) = first_words.next() else {
-        return has_no_control(bytes) && bytes.len() >= SURELY_COMMENT;
+        return has_no_control(bytes) && (is_surely_comment(bytes) || is_surely_text(bytes));
     };
     is_word(first)
         || has_no_control(bytes)
             && (is_nearly_a_word(first)
                 || first_words.any(is_nearly_a_word)
                 || is_surely_text(bytes))
+}
+
+/// Comments and blanks that no good log starts with, up to a line's end.
+fn is_surely_comment(bytes: &[u8]) -> bool {
+    let is_utf8 = std::str::from_utf8(bytes).is_ok();
+    is_utf8 && bytes.len() >= SURELY_COMMENT && bytes.ends_with(b"\n")
 }
 
 /// So many characters without a control character among them are no log.
