@@ -22,18 +22,22 @@ use rows::Rows;
 pub fn explain(bytes: &[u8]) -> Result<String, String> {
     match form(bytes) {
         Form::Packed => Ok(explain_packed(bytes)),
-        Form::Text => match given_text(bytes) {
-            Ok(given) => Ok(explain_run(&given)),
-            Err(bad) if bad.refusal == Some(Refusal::LongLog) => {
-                let (number, word) = (Refusal::LongLog.number(), Refusal::LongLog.word());
-                let meaning = Refusal::LongLog.meaning();
-                Ok(format!(
-                    "log {number}    {word}: {meaning} (from line {} on)\n",
-                    bad.line
-                ))
-            }
-            Err(bad) => Err(bad.to_string()),
-        },
+        Form::Text => explain_text(bytes),
+    }
+}
+
+fn explain_text(bytes: &[u8]) -> Result<String, String> {
+    const LONG: Refusal = Refusal::LongLog;
+    match given_text(bytes) {
+        Ok(given) => Ok(explain_run(&given)),
+        Err(bad) if bad.refusal == Some(LONG) => {
+            let (number, word, meaning) = (LONG.number(), LONG.word(), LONG.meaning());
+            let line = bad.line;
+            Ok(format!(
+                "log {number}    {word}: {meaning} (from line {line} on)\n"
+            ))
+        }
+        Err(bad) => Err(bad.to_string()),
     }
 }
 

@@ -273,9 +273,10 @@ fn not_final(register: &Register, office: Office, b: Block) -> String {
     let mut reasons = Vec::new();
     if middle != oldest + 1 || newest != middle + 1 {
         reasons.push(format!(
-            "{}, block {} and block {number} are of epochs {oldest}, {middle}, {newest}, not consecutive",
+            "{}, block {} and block {number} are of epochs {}, not consecutive",
             block_name(d),
-            c.0
+            c.0,
+            listed([oldest, middle, newest].iter())
         ));
     }
     if let Some(faults) = chain_faults(register, office, b) {

@@ -142,7 +142,7 @@ fn who_may_not_act() {
     );
 }
 
-/// 15 and 23: where the message is instead. 16: what it is instead.
+/// 15 and 23: where the message is instead.
 #[test]
 fn where_a_message_is() {
     let two = |steps: &str, reason: &str| {
@@ -177,8 +177,13 @@ fn where_a_message_is() {
         &format!("{FOUR}; propose 0 0 7; deliver 0 3"),
         "not sent: office 3 is untrusted, and nothing is ever in transit to it",
     );
-    two(
-        "deliver 0 1; register 1 0",
+}
+
+/// 16: what the message is instead.
+#[test]
+fn what_a_message_is() {
+    assert_reason(
+        &format!("{TWO}; propose 0 0 7; deliver 0 1; register 1 0"),
         "kind: message 0 is a proposal of office 0 for block 1; register takes votes only",
     );
     assert_reason(
@@ -369,6 +374,20 @@ fn what_propose_and_vote_change() {
             "longest for office 1 now: the chain 1 (1 block)",
         ],
     );
+    assert_changes(
+        &format!("{THREE}; draft 0 1 7; propose 0 0 7"),
+        &[
+            "accepted: message 0 proposes block 1, made before: on genesis, epoch 1, payload 7",
+            "office 0 has acted; message 0 is in its view and in transit to offices 1, 2",
+            "for office 0 block 1 lacks 1 of the 2 signers needed (signers: 0)",
+        ],
+    );
+}
+
+/// In the view, notarised, and notarised before.
+#[test]
+fn what_register_changes() {
+    let text = format!("{THREE}; propose 0 0 7; deliver 0 1; vote 1 0");
     let text = format!("{text}; deliver 1 0; register 0 1");
     assert_changes(
         &text,
@@ -384,14 +403,6 @@ fn what_propose_and_vote_change() {
         &[
             "accepted: message 2, a vote of office 2 for block 1, is in office 0's view",
             "block 1 was notarised for office 0: now signers 0, 1, 2; 3 of 3",
-        ],
-    );
-    assert_changes(
-        &format!("{THREE}; draft 0 1 7; propose 0 0 7"),
-        &[
-            "accepted: message 0 proposes block 1, made before: on genesis, epoch 1, payload 7",
-            "office 0 has acted; message 0 is in its view and in transit to offices 1, 2",
-            "for office 0 block 1 lacks 1 of the 2 signers needed (signers: 0)",
         ],
     );
 }

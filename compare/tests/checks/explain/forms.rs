@@ -175,57 +175,56 @@ fn slips_get_their_line() {
     }
 }
 
+/// The text is refused so, whoever reads it.
+#[track_caller]
+fn assert_bad(text: &[u8], message: &str) {
+    assert_eq!(explain(text), Err(message.to_string()));
+    assert_eq!(given(text), Err(message.to_string()));
+}
+
+/// Where `offices` is due.
 #[test]
-fn texts_that_are_no_log() {
-    let opening = "offices 1\ntrusted 0\nleaders 0\n";
-    let due = "`offices` is due here, not";
-    let start = "a text starts with offices, trusted, leaders";
-    let cases: [(Vec<u8>, String); 10] = [
-        (
-            b"Dear offices, hello\n".to_vec(),
-            format!("line 1: {due} `Dear`: {start}"),
-        ),
-        (
-            b"# nothing yet\n".to_vec(),
-            "line 2: the text ends where `offices` is due".into(),
-        ),
-        (
-            b"3 offices\ntrusted 0\n".to_vec(),
-            format!("line 1: {due} `3`: {start}"),
-        ),
-        (
-            b"\n\nvote 1 0".to_vec(),
-            format!("line 3: {due} `vote`: {start}"),
-        ),
-        (
-            b"OFFICES 3\n".to_vec(),
-            format!("line 1: {due} `OFFICES`: {start}"),
-        ),
-        (
-            format!("{opening}vote 0\x0C1\x1A 0").into_bytes(),
-            "line 4: message `1\u{1a}` isn't a number from 0 to 1023".into(),
-        ),
-        (
-            [opening.as_bytes(), b"# bl\xF6ck\nadvance\n"].concat(),
-            "line 4: a character that isn't UTF-8; save the text as UTF-8".into(),
-        ),
-        (
-            format!("{opening}vote 0 1024").into_bytes(),
-            "line 4: message `1024` isn't a number from 0 to 1023".into(),
-        ),
-        (
-            b"offices".to_vec(),
-            "line 1: offices takes one number, 1 to 32, not 0".into(),
-        ),
-        (
-            format!("{opening}{opening}").into_bytes(),
-            "line 4: `offices` stands in the opening, once, and no step has this word".into(),
-        ),
+fn texts_without_a_start() {
+    let cases = [
+        ("Dear offices, hello\n", 1, "Dear"),
+        ("3 offices\ntrusted 0\n", 1, "3"),
+        ("\n\nvote 1 0", 3, "vote"),
+        ("OFFICES 3\n", 1, "OFFICES"),
     ];
-    for (text, message) in cases {
-        assert_eq!(explain(&text), Err(message.clone()));
-        assert_eq!(given(&text), Err(message));
+    for (text, line, word) in cases {
+        let start = "a text starts with offices, trusted, leaders";
+        let message = format!("line {line}: `offices` is due here, not `{word}`: {start}");
+        assert_bad(text.as_bytes(), &message);
     }
+    assert_bad(
+        b"# nothing yet\n",
+        "line 2: the text ends where `offices` is due",
+    );
+    assert_bad(
+        b"offices",
+        "line 1: offices takes one number, 1 to 32, not 0",
+    );
+}
+
+/// Odd characters, and a second opening.
+#[test]
+fn texts_that_go_wrong_later() {
+    let bad = |behind: &[u8], message: &str| {
+        let text = [b"offices 1\ntrusted 0\nleaders 0\n", behind].concat();
+        assert_bad(&text, &format!("line 4: {message}"));
+    };
+    bad(
+        b"vote 0\x0C1\x1A 0",
+        "message `1\u{1a}` isn't a number from 0 to 1023",
+    );
+    bad(
+        b"# bl\xF6ck\nadvance\n",
+        "a character that isn't UTF-8; save the text as UTF-8",
+    );
+    bad(
+        b"offices 1\n",
+        "`offices` stands in the opening, once, and no step has this word",
+    );
 }
 
 /// A mark of UTF-8 at the start says nothing. UTF-16 is called by its name, and is
