@@ -1,6 +1,7 @@
 //! The rules: offices, blocks, views, the opening and the eight steps. The
 //! register is changed in place.
 
+mod mistake;
 mod numbers;
 mod opening;
 mod step;
@@ -12,6 +13,7 @@ mod any_fit;
 #[cfg(test)]
 mod by_hand;
 
+pub use mistake::Mistake;
 pub use numbers::{Block, Epoch, GENESIS, Message, Office};
 pub use opening::{Opening, check_count, check_leader, check_length, check_third};
 pub use step::{MOST_FIELDS, STEP_KINDS, Step};
@@ -87,6 +89,9 @@ pub struct Register {
     history: Vec<MessageRecord>,
     /// By office, n entries.
     local: Vec<LocalState>,
+    /// The one rule that is got wrong, to show what comes of it; none if the
+    /// checker is right.
+    mistake: Option<Mistake>,
 }
 
 impl Register {

@@ -2,7 +2,7 @@
 
 use crate::packed::{LONGEST_LOG, Log, read_log};
 use crate::refusal::Refusal;
-use crate::register::{Answer, Office, Register};
+use crate::register::{Answer, Mistake, Office, Register};
 
 /// The only line on a log of no bytes: whoever sends it has no log yet.
 pub const EMPTY: &str = "empty";
@@ -33,7 +33,7 @@ pub fn check_onto(log: &[u8], report: &mut Vec<u8>) {
         return put_line(report, EMPTY.as_bytes(), []);
     }
     match open(log) {
-        Ok((log, register)) => run(&log, register, report),
+        Ok((log, mut register)) => run(&log, &mut register, report),
         Err(refusal) => put_line(report, b"log ", [refusal.number().into()]),
     }
 }
@@ -44,13 +44,27 @@ fn open(log: &[u8]) -> Result<(Log, Register), Refusal> {
     Ok((log, register))
 }
 
+/// The report on a log that reads, by a checker that gets one rule wrong.
+pub fn check_with(log: &Log, mistake: Option<Mistake>) -> Vec<u8> {
+    run_with(log, mistake).0
+}
+
+/// The same, and the register after the last step.
+pub fn run_with(log: &Log, mistake: Option<Mistake>) -> (Vec<u8>, Register) {
+    let opened = Register::open_with(&log.opening, mistake);
+    let mut register = opened.expect("a log that reads opens");
+    let mut report = Vec::new();
+    run(log, &mut register, &mut report);
+    (report, register)
+}
+
 /// A line per step, then a line per trusted office, ascending.
-fn run(log: &Log, mut register: Register, report: &mut Vec<u8>) {
+fn run(log: &Log, register: &mut Register, report: &mut Vec<u8>) {
     for (index, step) in log.steps.iter().enumerate() {
         put_step(report, index + 1, register.step(step));
     }
     for office in register.trusted_offices() {
-        put_office(report, &register, office);
+        put_office(report, register, office);
     }
 }
 

@@ -1,7 +1,7 @@
 //! Opening a register: n, the trust word and the schedule, refused with 1 to 4.
 
 use super::{BlockRecord, Epoch, GENESIS, LONGEST_SCHEDULE, MOST_MESSAGES, MOST_OFFICES};
-use super::{LocalState, Mark, Office, Register};
+use super::{LocalState, Mark, Mistake, Office, Register};
 use crate::refusal::{Refusal, ensure};
 
 /// What an opening takes.
@@ -59,6 +59,11 @@ impl Register {
     /// Fresh: epoch 1, no blocks but genesis, no messages, all ready, all
     /// final blocks 0.
     pub fn open(opening: &Opening) -> Result<Register, Refusal> {
+        Register::open_with(opening, None)
+    }
+
+    /// The same for a checker that gets one rule wrong.
+    pub fn open_with(opening: &Opening, mistake: Option<Mistake>) -> Result<Register, Refusal> {
         opening.check()?;
         let offices = (0..opening.n).map(Office);
         let fresh = LocalState {
@@ -78,6 +83,7 @@ impl Register {
             blocks: vec![genesis],
             history: Vec::with_capacity(MOST_MESSAGES),
             local: vec![fresh; usize::from(opening.n)],
+            mistake,
         })
     }
 }

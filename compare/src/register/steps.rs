@@ -3,7 +3,7 @@
 //! the register. 5 is never met: no register here is unfit.
 
 use super::{Block, Epoch, GENESIS, LAST_BLOCK, LAST_EPOCH, MOST_MESSAGES, Message, Office};
-use super::{BlockRecord, Kind, Mark, MessageRecord, Place, Register, Step};
+use super::{BlockRecord, Kind, Mark, MessageRecord, Mistake, Place, Register, Step, View};
 use crate::refusal::{Refusal, ensure};
 
 /// The value of an accepted step, or its refusal.
@@ -90,7 +90,7 @@ impl Register {
         let on_epoch = signer == self.leader() && epoch == self.epoch;
         ensure(on_epoch, Refusal::OffEpoch)?;
         let view = self.view(office);
-        ensure(!view.has_signature(signer, block), Refusal::Entered)?;
+        self.check_not_entered(office, &view, self.message(proposal))?;
         ensure(view.is_longest(parent), Refusal::NotLongest)?;
         self.check_epochs(parent, epoch)?;
         self.check_messages_left()?;
@@ -107,14 +107,8 @@ impl Register {
         self.check_message(vote)?;
         self.check_trusted(office)?;
         self.check_in_hand(office, vote)?;
-        let MessageRecord {
-            kind,
-            signer,
-            block,
-        } = *self.message(vote);
-        ensure(kind == Kind::Vote, Refusal::Kind)?;
-        let entered = self.view(office).has_signature(signer, block);
-        ensure(!entered, Refusal::Entered)?;
+        ensure(self.message(vote).kind == Kind::Vote, Refusal::Kind)?;
+        self.check_not_entered(office, &self.view(office), self.message(vote))?;
 
         self.put(vote, office, Place::View);
         Ok(vote)
@@ -133,8 +127,9 @@ impl Register {
         let d = self.block(c).parent;
         let Epoch(k) = self.block(d).epoch;
         let in_a_row = self.block(c).epoch == Epoch(k + 1) && self.block(b).epoch == Epoch(k + 2);
-        ensure(in_a_row, Refusal::NotFinal)?;
+        ensure(in_a_row || self.overlooks_epochs(b, c), Refusal::NotFinal)?;
         ensure(self.view(office).is_notarised_chain(b), Refusal::NotFinal)?;
+        let c = self.made_final(b, c);
         let present = self.final_block(office);
         let behind = self.chain_length(c) < self.chain_length(present);
         ensure(!behind, Refusal::Behind)?;
@@ -173,7 +168,8 @@ impl Register {
             signer,
             block,
         };
-        let forged = self.is_trusted(signer) && !self.history.contains(&sent);
+        let known = || self.history.contains(&sent) && !self.makes(Mistake::ReplayForged);
+        let forged = self.is_trusted(signer) && !known();
         ensure(!forged, Refusal::Forged)?;
         self.check_messages_left()?;
 
@@ -240,9 +236,23 @@ impl Register {
         ensure(in_hand, Refusal::NotInHand)
     }
 
+    /// 18: that signer's signature on that block is in the view.
+    fn check_not_entered(
+        &self,
+        office: Office,
+        view: &View,
+        message: &MessageRecord,
+    ) -> Result<(), Refusal> {
+        let MessageRecord { signer, block, .. } = *message;
+        let entered = view.has_signature(signer, block);
+        let entered = entered && !self.overlooks_signature(office, signer, block);
+        ensure(!entered, Refusal::Entered)
+    }
+
     /// 20: block's epoch not above its parent's.
     fn check_epochs(&self, parent: Block, epoch: Epoch) -> Result<(), Refusal> {
-        ensure(epoch > self.block(parent).epoch, Refusal::Epochs)
+        let above = epoch > self.block(parent).epoch || self.makes(Mistake::SkipTwenty);
+        ensure(above, Refusal::Epochs)
     }
 
     /// 25: a new block is needed and there are 255.

@@ -32,6 +32,7 @@ impl Register {
                 signers[message.block.index()] |= 1 << message.signer.0;
             }
         }
+        self.miscount(office, &mut signers);
         View {
             register: self,
             signers,
@@ -60,7 +61,7 @@ impl View<'_> {
             _ => self.signers(block).count_ones(),
         };
         Notarised {
-            holds: is_quorum(signers, n),
+            holds: is_quorum(signers, n) && !self.register.wants_more(signers),
             signers,
         }
     }

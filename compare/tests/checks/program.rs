@@ -67,7 +67,7 @@ fn feed(mut stdin: ChildStdin, log: &[u8]) {
 }
 
 /// What the program prints of a log.
-fn printed(log: &[u8]) -> Vec<u8> {
+pub fn printed(log: &[u8]) -> Vec<u8> {
     let (child, stdin) = begun(program());
     feed(stdin, log);
     let output = child.wait_with_output().expect("the program ends");
