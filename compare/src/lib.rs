@@ -11,6 +11,8 @@
 //! - [`report`]: the whole check, log bytes to report bytes.
 //! - [`text`]: a log as readable text and back; packed logs and texts told apart.
 //! - [`explain`]: the report explained: why a step is refused, what it changes.
+//! - [`mistaken`]: a student's wrong checkers beside the right one.
+//! - [`draw`]: a picture of the block tree, as an office sees it.
 //! - [`generate`]: logs made from seeds, to compare and to measure with.
 //! - `proved`: the proved checker's C call (feature `proved`).
 //!
@@ -23,8 +25,10 @@
 //! proved --bin bench` measures both on long logs. `--bin reports` writes the
 //! proved checker's reports, to compare two builds of it.
 
+pub mod draw;
 pub mod explain;
 pub mod generate;
+pub mod mistaken;
 pub mod packed;
 #[cfg(feature = "proved")]
 pub mod proved;

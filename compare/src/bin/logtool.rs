@@ -1,7 +1,9 @@
-//! Packed logs for people: `logtool text < log`, `logtool log < text` and
-//! `logtool explain < log or text`.
+//! Packed logs for people: `logtool text < log`, `logtool log < text`, and of a
+//! log or a text `logtool explain`, `logtool mistake NAME` and `logtool draw`.
 
+use skovarnek_compare::draw;
 use skovarnek_compare::explain;
+use skovarnek_compare::mistaken;
 use skovarnek_compare::packed::{read_log, write_log};
 use skovarnek_compare::report::EMPTY;
 use skovarnek_compare::text;
@@ -10,9 +12,13 @@ use std::io::{self, Read, Write};
 use std::process::ExitCode;
 
 const USAGE: &str = "\
-usage: logtool text < log       the log as text
-       logtool log < text       the text as a packed log
-       logtool explain < log    the report, each line with its reason; of a text too";
+usage: logtool text < LOG                  the log as text
+       logtool log < TEXT                  the text as a packed log
+and of a log or a text:
+       logtool explain < LOG               the report, each line with its reason
+       logtool mistake NAME < LOG          where a student's wrong checker differs; NAME or `all`
+       logtool draw < LOG                  the block tree as an SVG picture
+               [--office Q] [--step K]     as office Q sees it, after step K";
 
 fn main() -> ExitCode {
     let arguments: Vec<String> = env::args().skip(1).collect();
@@ -21,6 +27,8 @@ fn main() -> ExitCode {
         ["text"] => to_text(),
         ["log"] => to_log(),
         ["explain"] => explain(),
+        ["mistake", name] => mistake(name),
+        ["draw", ref choices @ ..] => draw_tree(choices),
         _ => Err(USAGE.to_string()),
     };
     match result {
@@ -64,6 +72,28 @@ fn to_log() -> Result<(), String> {
 
 fn explain() -> Result<(), String> {
     output(explain::explain(&input()?)?.as_bytes())
+}
+
+/// A name that is not known is noticed before anything is read.
+fn mistake(name: &str) -> Result<(), String> {
+    let chosen = mistaken::named(name);
+    if chosen.is_none() && name != "all" {
+        let names = mistaken::names();
+        return Err(format!(
+            "there is no mistake `{name}`; there are: {names} all"
+        ));
+    }
+    let log = text::given(&input()?)?.log;
+    let told = match chosen {
+        Some(mistake) => mistaken::compare(&log, mistake),
+        None => mistaken::compare_all(&log),
+    };
+    output(told.as_bytes())
+}
+
+fn draw_tree(choices: &[&str]) -> Result<(), String> {
+    let choice = draw::choose(choices)?;
+    output(draw::draw(&choice, &input()?)?.as_bytes())
 }
 
 fn input() -> Result<Vec<u8>, String> {

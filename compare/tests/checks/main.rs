@@ -1,9 +1,10 @@
 //! The tests: hand-written cases, what the generated logs bring, what the logs
 //! to measure with are, that final chains agree and never go back, who has
-//! signed a block and how many have, the text form, the explained report, the
-//! tool, the C header's numbers, the tables and examples of the documents, and
-//! (feature `proved`) the comparison of both checkers and the proved program, or
-//! a word that it is left out.
+//! signed a block and how many have, the text form, the tool, the explained
+//! report, the lessons and their wrong checkers, the pictures, the C header's
+//! numbers, the tables and examples of the documents, and (feature `proved`) the
+//! comparison of both checkers and the proved program, or a word that it is left
+//! out.
 
 mod agreement;
 mod cases;
@@ -11,12 +12,14 @@ mod counts;
 mod coverage;
 mod decided;
 mod documents;
+mod draw;
 mod explain;
 mod forks;
 mod header;
 mod heavy;
 #[cfg(not(feature = "proved"))]
 mod left_out;
+mod lessons;
 mod logtool;
 mod never_back;
 #[cfg(feature = "proved")]
