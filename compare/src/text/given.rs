@@ -26,12 +26,13 @@
 //! A part of a longer character may be such a byte; but then byte 3 is a part of
 //! it too, and makes the first leader 8 or more.
 //!
-//! Why no damaged log is taken for text. It would have to spell out such a word.
-//! None of the words, nor one with a slip, begins a log with a good opening, and
-//! by the above no five bytes of comments and blanks do. Control characters are in
-//! every log, but for some that are made not to have them: the first byte of a log
-//! of 1 to 7 offices is one, unless its trust is refused, and bytes that start with
-//! 000 are, which small numbers in wide fields bring.
+//! Why a damaged log is hardly ever taken for text. It would have to spell out such
+//! a word. None of the words, nor one with a slip, begins a log with a good
+//! opening, and by the above no five bytes of comments and blanks do. Without a
+//! word it would need to be free of control characters. But the first byte of a
+//! log of 1 to 7 offices is one, unless its trust is refused, and so are all bytes
+//! that start with 000, which small numbers in wide fields bring. Damage can write
+//! anything, of course, a text too; the generated logs have no such.
 
 use super::parse::{BadText, OPENING_LINES, parse, words_and_comment};
 use super::slips::{is_nearly_a_word, is_word};
