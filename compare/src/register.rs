@@ -18,7 +18,7 @@ pub use numbers::{Block, Epoch, GENESIS, Message, Office};
 pub use opening::{Opening, check_count, check_leader, check_length, check_third};
 pub use step::{MOST_FIELDS, STEP_KINDS, Step};
 pub use steps::Answer;
-pub use view::{Notarised, View, is_quorum};
+pub use view::{Notarised, View, fewest_signers, is_quorum};
 
 pub const MOST_OFFICES: u8 = 32;
 pub const LONGEST_SCHEDULE: usize = 256;

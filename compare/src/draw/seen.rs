@@ -2,7 +2,7 @@
 
 use super::Choice;
 use crate::packed::Log;
-use crate::register::{Block, Epoch, GENESIS, Office, Opening, Register, View, is_quorum};
+use crate::register::{Block, Epoch, GENESIS, Office, Opening, Register, View, fewest_signers};
 
 /// A register as an office sees it.
 #[derive(Clone, Debug, PartialEq, Eq)]
@@ -71,7 +71,7 @@ pub fn seen(log: &Log, choice: &Choice) -> Result<Seen, String> {
     Ok(Seen {
         office,
         n,
-        needed: (0..).find(|&count| is_quorum(count, n)).expect("all are"),
+        needed: fewest_signers(n),
         untrusted: offices.filter(|&q| !register.is_trusted(q)).collect(),
         epoch: register.epoch(),
         last_epoch: register.last_epoch(),

@@ -1,7 +1,7 @@
 //! What an office's view says of chains.
 
-use super::words::{all_messages, block_name, blocks, listed, needed, of_word};
-use crate::register::{Block, GENESIS, Office, Place, Register, View};
+use super::words::{all_messages, block_name, blocks, listed, of_word};
+use crate::register::{Block, GENESIS, Office, Place, Register, View, fewest_signers};
 
 /// A longer chain is named by its newest block alone.
 const LISTED_CHAIN: usize = 8;
@@ -85,7 +85,7 @@ pub fn lack(register: &Register, office: Office, block: Block) -> String {
 }
 
 fn lack_in(view: &View, register: &Register, office: Office, block: Block) -> String {
-    let needed = needed(register.n());
+    let needed = fewest_signers(register.n());
     let lacks = needed - view.notarised(block).signers;
     let word = view.signers(block);
     let mut text = format!(

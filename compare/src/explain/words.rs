@@ -1,6 +1,6 @@
 //! Words for blocks, offices, messages and signers.
 
-use crate::register::{Block, GENESIS, Kind, Message, Office, Place, Register, is_quorum};
+use crate::register::{Block, GENESIS, Kind, Message, Office, Place, Register};
 use std::fmt::Display;
 
 /// So many blocks of a list are named.
@@ -54,12 +54,6 @@ pub fn offices(offices: &[Office]) -> String {
 /// The offices whose bits are set.
 pub fn of_word(word: u32) -> String {
     listed((0..u32::BITS).filter(|office| word >> office & 1 == 1))
-}
-
-/// How many signers a block needs.
-pub fn needed(n: u8) -> u32 {
-    let enough = (0..=u32::from(n)).find(|&signers| is_quorum(signers, n));
-    enough.expect("all offices are enough")
 }
 
 pub fn kind_name(kind: Kind) -> &'static str {

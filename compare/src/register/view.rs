@@ -22,6 +22,12 @@ pub fn is_quorum(signers: u32, n: u8) -> bool {
     3 * signers >= 2 * u32::from(n)
 }
 
+/// The fewest signers that are a quorum.
+pub fn fewest_signers(n: u8) -> u32 {
+    let enough = (0..=u32::from(n)).find(|&signers| is_quorum(signers, n));
+    enough.expect("all offices are a quorum")
+}
+
 impl Register {
     /// The view of an office below n, by one pass over the messages.
     pub fn view(&self, office: Office) -> View<'_> {

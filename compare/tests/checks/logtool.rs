@@ -8,16 +8,18 @@ use std::io::Write;
 use std::path::{Path, PathBuf};
 use std::process::{Command, Output, Stdio};
 
-fn logtool(argument: &str, input: &[u8]) -> Output {
+/// What the tool says to an input.
+pub fn logtool(arguments: &[&str], input: &[u8]) -> Output {
     let mut child = Command::new(env!("CARGO_BIN_EXE_logtool"))
-        .arg(argument)
+        .args(arguments)
         .stdin(Stdio::piped())
         .stdout(Stdio::piped())
         .stderr(Stdio::piped())
         .spawn()
         .expect("the tool starts");
     let mut stdin = child.stdin.take().expect("a pipe");
-    stdin.write_all(input).expect("the tool reads");
+    // Where the arguments are wrong, the tool ends without reading.
+    let _ = stdin.write_all(input);
     drop(stdin);
     child.wait_with_output().expect("the tool ends")
 }
@@ -29,11 +31,11 @@ fn words(bytes: &[u8]) -> String {
 #[test]
 fn text_and_log() {
     let whole = cases::all().swap_remove(0).log;
-    let text = logtool("text", &whole);
+    let text = logtool(&["text"], &whole);
     assert!(text.status.success());
     let start = "offices 3\ntrusted 0 1 2\nleaders 0 0 0\npropose 0 0 7\n";
     assert!(words(&text.stdout).starts_with(start));
-    let log = logtool("log", &text.stdout);
+    let log = logtool(&["log"], &text.stdout);
     assert!(log.status.success());
     assert_eq!(log.stdout, whole);
 }
@@ -41,7 +43,7 @@ fn text_and_log() {
 #[test]
 fn explained() {
     let whole = cases::all().swap_remove(0).log;
-    let explained = logtool("explain", &whole);
+    let explained = logtool(&["explain"], &whole);
     assert!(explained.status.success());
     let explained = words(&explained.stdout);
     let lines: Vec<String> = explained.lines().map(single_spaced).collect();
@@ -63,7 +65,7 @@ fn sample(name: &str) -> PathBuf {
 #[test]
 fn going_back_explained() {
     let log = fs::read(sample("going-back.log")).expect("a log");
-    let explained = words(&logtool("explain", &log).stdout);
+    let explained = words(&logtool(&["explain"], &log).stdout);
     let lines: Vec<String> = explained.lines().map(single_spaced).collect();
     let wanted = [
         "8 0 3 finalise 0 4 accepted: block 3, the parent of block 4, is now final for office 0",
@@ -82,7 +84,7 @@ fn going_back_explained() {
 #[test]
 fn from_genesis_explained() {
     let log = fs::read(sample("from-genesis.log")).expect("a log");
-    let explained = words(&logtool("explain", &log).stdout);
+    let explained = words(&logtool(&["explain"], &log).stdout);
     let lines = explained.lines().map(single_spaced);
     let is_office = |line: &String| line.starts_with("office") && line.contains("final");
     let about_final = |line: &String| line.contains("finalise") || is_office(line);
@@ -111,14 +113,14 @@ fn sample_logs() {
     for path in logs {
         let beside = |end: &str| fs::read(path.with_extension(end)).expect("a file");
         let log = beside("log");
-        let text = logtool("text", &log);
+        let text = logtool(&["text"], &log);
         assert_eq!(words(&text.stdout), words(&beside("txt")), "{path:?}");
         assert_eq!(words(&check(&log)), words(&beside("report")), "{path:?}");
         let reads = read_log(&log).is_ok();
         let damaged = !reads && !log.is_empty();
         assert_eq!(text.status.success(), !damaged, "{path:?}");
         if reads {
-            assert_eq!(logtool("log", &text.stdout).stdout, log, "{path:?}");
+            assert_eq!(logtool(&["log"], &text.stdout).stdout, log, "{path:?}");
         }
     }
 }
@@ -131,11 +133,11 @@ fn single_spaced(line: &str) -> String {
 fn a_log_that_does_not_read() {
     // Two bits set in the pad of a log without steps.
     let log = [0x0F, 0x80, 0xC0, 0x00, 0x03];
-    let explained = logtool("explain", &log);
+    let explained = logtool(&["explain"], &log);
     assert!(explained.status.success());
     let wanted = "log 29 ending: a pad bit set, or bytes after the pad (at bit 33, after 0 steps)";
     assert_eq!(single_spaced(&words(&explained.stdout)), wanted);
-    let text = logtool("text", &log);
+    let text = logtool(&["text"], &log);
     assert!(!text.status.success());
     assert!(words(&text.stdout).contains("leaders 0 0 0\n# log 29, ending: "));
 }
@@ -146,17 +148,17 @@ fn a_log_that_does_not_read() {
 fn no_log_yet() {
     let log = fs::read(sample("no-log-yet.log")).expect("a log");
     assert!(log.is_empty());
-    let explained = logtool("explain", &log);
+    let explained = logtool(&["explain"], &log);
     let wanted = "empty    a log of no bytes: there is no log yet\n";
     assert_eq!(words(&explained.stdout), wanted);
-    let text = logtool("text", &log);
+    let text = logtool(&["text"], &log);
     let wanted = "# empty, a log of no bytes: there is no log yet\n";
     assert_eq!(words(&text.stdout), wanted);
     for output in [&explained, &text] {
         assert!(output.status.success());
         assert!(output.stderr.is_empty());
     }
-    let back = logtool("log", &text.stdout);
+    let back = logtool(&["log"], &text.stdout);
     assert!(!back.status.success());
     assert!(back.stdout.is_empty());
     let wanted = "line 2: the text ends where `offices` is due\n";
@@ -165,14 +167,14 @@ fn no_log_yet() {
 
 #[test]
 fn bad_input() {
-    let log = logtool("log", b"offices 3\ntrusted 0 1 2\nleaders 0\nvote 1\n");
+    let log = logtool(&["log"], b"offices 3\ntrusted 0 1 2\nleaders 0\nvote 1\n");
     assert!(!log.status.success());
     assert!(log.stdout.is_empty());
     let message = words(&log.stderr);
     assert_eq!(message, "line 4: vote needs a message after office 1\n");
-    assert!(!logtool("dance", b"").status.success());
+    assert!(!logtool(&["dance"], b"").status.success());
     let slip = logtool(
-        "explain",
+        &["explain"],
         b"offices 3\ntrusted 0 1 2\nleaders 0\nvoet 1 0\n",
     );
     assert!(!slip.status.success());
@@ -185,10 +187,13 @@ fn bad_input() {
 #[test]
 fn the_other_form() {
     let whole = cases::all().swap_remove(0).log;
-    let log = logtool("log", &whole);
+    let log = logtool(&["log"], &whole);
     assert!(!log.status.success());
     assert_eq!(words(&log.stderr), "this is a packed log, not text\n");
-    let text = logtool("text", &fs::read(sample("whole-case.txt")).expect("a text"));
+    let text = logtool(
+        &["text"],
+        &fs::read(sample("whole-case.txt")).expect("a text"),
+    );
     assert!(!text.status.success());
     assert!(text.stdout.is_empty());
     assert_eq!(words(&text.stderr), "this is text, not a packed log\n");

@@ -1,24 +1,13 @@
 //! `logtool mistake` as it is called.
 
+use super::super::logtool::logtool;
 use super::{lessons, words};
 use skovarnek_compare::mistaken::MISTAKES;
 use skovarnek_compare::packed::write_log;
-use std::io::Write;
-use std::process::{Command, Output, Stdio};
+use std::process::Output;
 
 fn mistake(name: &str, input: &[u8]) -> Output {
-    let mut child = Command::new(env!("CARGO_BIN_EXE_logtool"))
-        .args(["mistake", name])
-        .stdin(Stdio::piped())
-        .stdout(Stdio::piped())
-        .stderr(Stdio::piped())
-        .spawn()
-        .expect("the tool starts");
-    let mut stdin = child.stdin.take().expect("a pipe");
-    // An unknown name is refused before anything is read.
-    let _ = stdin.write_all(input);
-    drop(stdin);
-    child.wait_with_output().expect("the tool ends")
+    logtool(&["mistake", name], input)
 }
 
 fn told(name: &str, input: &[u8]) -> String {
