@@ -17,6 +17,11 @@ fn pieces() -> Vec<String> {
     behind.map(piece).collect()
 }
 
+/// A line of `use`, of code or of what contracts cite.
+fn is_use(line: &str) -> bool {
+    line.trim_start_matches("ghost ").starts_with("use ")
+}
+
 /// The lines of `use`, and each function with its comment, stand in one file. The
 /// file may have other lines of `use` between these.
 fn stands_in(piece: &str, file: &str) -> bool {
@@ -24,7 +29,7 @@ fn stands_in(piece: &str, file: &str) -> bool {
     piece.split("\n\n").all(|part| {
         let part = part.trim_end();
         let whole = |part: &str| format!("\n{code}\n").contains(&format!("\n{part}\n"));
-        if part.starts_with("use ") {
+        if part.lines().all(is_use) {
             part.lines().all(whole)
         } else {
             whole(part)
@@ -32,12 +37,21 @@ fn stands_in(piece: &str, file: &str) -> bool {
     })
 }
 
+/// A piece that has a contract has the lines of `use` that it cites too.
+fn cites_what_it_uses(piece: &str) -> bool {
+    piece.contains("ensures") == piece.starts_with("ghost use ")
+}
+
 #[test]
 fn pieces_stand_in_proved_programs() {
     let pieces = pieces();
     assert_eq!(pieces.len(), 6);
     for piece in pieces {
-        assert!(piece.starts_with("use "), "no line of use: {piece}");
+        assert!(
+            piece.lines().next().is_some_and(is_use),
+            "no line of use: {piece}"
+        );
+        assert!(cites_what_it_uses(&piece), "no line of ghost use: {piece}");
         let stands = FILES.iter().any(|file| stands_in(&piece, file));
         assert!(stands, "in no program: {piece}");
     }
