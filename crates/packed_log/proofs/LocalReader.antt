@@ -6,8 +6,9 @@
 --     calls-new        from what the log owns and the token to these and what the reader at the log's start owns
 --     calls-open, calls-next   `calls-method` of the two: what is read is what stands at the reader's position, and the reader is behind it
 -- Each call goes on at the answer's machine value, knowing its type, where the value is to be stored, and its relation (`Is`).
--- The loan's lifetime must end before the log's, κ, does. So it is the meet of κ and of a new lifetime α: α ∷ κ. Its token is made of one half of the token of κ and
--- as large a share of α's; the other half goes to the method as the log's. After the call α's token is whole again, so α is ended, and with it the loan.
+-- The loan's lifetime must end before the log's, κ, does. So it is the meet of κ and of a new lifetime α: α ∷ κ. Its token is made of one half of the
+-- token of κ and as large a share of α's; the other half goes to the method as the log's. After the call α's token is whole again, so α is ended, and
+-- with it the loan.
 -- Assumes `Given`.
 use mathlib.Core.Path.{_≡_, refl, sym, ap, subst}
 use Prim.Native.Nat.{ℕ}
@@ -24,7 +25,8 @@ use ghost.Atoms.{Atoms, sem}
 use contract.BorrowLft.{meet-⊑-left, meet-⊑-right}
 use contract.Lifetimes.{Lfts, Shares, AllOutlive}
 use contract.Monad.{Fun, fact, fact-mono}
-use types.Kit.{Goal, Soaks, Seq, Step, step, Item, Post, runs, lands, Given, ‵, raw, _⊛_, some, later, ⋆, _$_, _∵_, !, qed, move, drop, use0, use1, use2, use3, split, join, pick, rewrite, fsplit, fjoin, fpick, fpack, frame, await, done}
+use types.Kit.{Goal, Soaks, Seq, Step, step, Item, Post, runs, lands, Given, ‵, raw, _⊛_, some, later, ⋆, _$_, _∵_, !, qed}
+use types.Kit.{move, drop, use0, use1, use2, use3, split, join, pick, rewrite, fsplit, fjoin, fpick, fpack, frame, await, done}
 use types.Run.{Opds}
 use types.SemTy.{Body}
 use types.Tokens.{lft-new, lft-end}
@@ -100,11 +102,13 @@ module _ (κ : Lft) (q : Share) (b : ℕ) where
 
   module _ {M : Type 1} {𝓤 : URA M} {H : Heap 𝓤} {A : Atoms 𝓤} {K : Type 0} {W : Given 𝓤 H A} {Γ : List (Item 𝓤)} {G : Goal 𝓤 H} where
     lends : K → Soaks G → (r : Reader)
-        → ((α : ℕ) (γ : GName) → Seq K W (‵ (Ref α γ r) ∷ ‵ (flft (α ∷ κ) (PosShare·left q)) ∷ ‵ (flft κ (PosShare·right q)) ∷ ‵ (Lender α γ) ∷ raw (Whole 𝓤 A α) ∷ Γ) G)
+        → ((α : ℕ) (γ : GName)
+        → Seq K W (‵ (Ref α γ r) ∷ ‵ (flft (α ∷ κ) (PosShare·left q)) ∷ ‵ (flft κ (PosShare·right q)) ∷ ‵ (Lender α γ) ∷ raw (Whole 𝓤 A α) ∷ Γ) G)
         → Seq K W (Held r ++ Γ) G
     lends t z r k =
         use2 W (‵ (mem (Row κ) .lies r b 0)) (lies-in 𝓤 H A W r) $ lft-new t z (λ α. move t (1 ∷ []) $
-        use1 W (later (some (λ (γ : GName). ‵ (Ref α γ r) ⊛ ‵ (Lender α γ)))) (lends-ref 𝓤 H A W (Row κ) (named 0) (α ∷ κ) r b 0) $ await t z $ pick t (λ γ. split t $
+        use1 W (later (some (λ (γ : GName). ‵ (Ref α γ r) ⊛ ‵ (Lender α γ)))) (lends-ref 𝓤 H A W (Row κ) (named 0) (α ∷ κ) r b 0) $
+        await t z $ pick t (λ γ. split t $
         -- [the `&mut`; the lender's part; α's token; κ's; …]
         move t (2 ∷ []) $ use1 W (‵ (flft (α ∷ []) (PosShare·left q)) ⊛ raw (Whole 𝓤 A α)) (W .lfts .lft-carve α (PosShare·left q)) $ split t $
         move t (4 ∷ []) $ use1 W (‵ (flft κ (PosShare·left q)) ⊛ ‵ (flft κ (PosShare·right q))) (W .lfts .lft-split κ q) $ split t $
@@ -113,9 +117,11 @@ module _ (κ : Lft) (q : Share) (b : ℕ) where
         move t (3 ∷ 0 ∷ 1 ∷ 4 ∷ 2 ∷ []) $ k α γ))
 
     back : K → Soaks G → (r : Reader) (α : ℕ) (γ : GName)
-        → Step K W (Held r ++ Γ) G (‵ (fres γ (Row κ .coded .code r)) ∷ ‵ (flft (α ∷ κ) (PosShare·left q)) ∷ ‵ (flft κ (PosShare·right q)) ∷ ‵ (Lender α γ) ∷ raw (Whole 𝓤 A α) ∷ Γ) G
+        → Step K W (Held r ++ Γ) G
+        (‵ (fres γ (Row κ .coded .code r)) ∷ ‵ (flft (α ∷ κ) (PosShare·left q)) ∷ ‵ (flft κ (PosShare·right q)) ∷ ‵ (Lender α γ) ∷ raw (Whole 𝓤 A α) ∷ Γ) G
     back t z r α γ =
-        step (λ s. move t (1 ∷ []) $ use1 W (‵ (flft (α ∷ []) (PosShare·left q)) ⊛ ‵ (flft κ (PosShare·left q))) (W .lfts .lft-unmeet (α ∷ []) κ (PosShare·left q)) $ split t $
+        step (λ s. move t (1 ∷ []) $ use1 W (‵ (flft (α ∷ []) (PosShare·left q)) ⊛ ‵ (flft κ (PosShare·left q)))
+        (W .lfts .lft-unmeet (α ∷ []) κ (PosShare·left q)) $ split t $
         -- [the share of α's token; half of κ's; the last reader; the other half; the lender's part; the way back; …]
         move t (1 ∷ 3 ∷ []) $ use2 W (‵ (flft κ q)) (W .lfts .lft-join κ q) $
         move t (1 ∷ 4 ∷ []) $ use2 W (‵ (flft (α ∷ []) fullShare)) (apply∗ 𝓤 (A .lft (α ∷ []) (PosShare·left q)) (A .lft (α ∷ []) fullShare)) $ lft-end t z $
@@ -178,11 +184,13 @@ module _ (κ : Lft) (q : Share) (b : ℕ) where
         lends κ q b t tt r (λ α γ. use3 W (raw (Met 𝓤 H A T c .pre (to 𝓤 H A T c r g α γ))) (asked 𝓤 H A T c r g W asks α γ) $
         calls-at t fm (Met 𝓤 H A T c) known (to 𝓤 H A T c r g α γ) (os α γ) (λ w.
         use1 W (later (some (λ (y : T .Denot). ((‵ (flft (α ∷ κ) (PosShare·left q)) ⊛ (‵ (flft κ (PosShare·right q)) ⊛ ‵ ftrue)) ⊛ ‵ (T .own y (w ∷ [])))
-        ⊛ some (λ (ws : Lasts (Method T) (lfts α) (passed γ r)). ‵ (lasts (Method T) (lfts α) (passed γ r) ws) ⊛ raw (c (lfts α) (passed γ r) .ensures (g α γ) y (passed γ (ws .0)))))))
+        ⊛ some (λ (ws : Lasts (Method T) (lfts α) (passed γ r)). ‵ (lasts (Method T) (lfts α) (passed γ r) ws)
+        ⊛ raw (c (lfts α) (passed γ r) .ensures (g α γ) y (passed γ (ws .0)))))))
         (id⊢ 𝓤 _) $ await t tt $ pick t (λ y. split t $ move t (1 ∷ []) $ pick t (λ ws. split t $
         -- [what is said of the last reader; the `ensures`; the tokens and the answer; the lender's part; the way back; …]
         move t (1 ∷ []) $ use1 W (raw (fact 𝓤 ((y ≡ x) × (ws .0 ≡ s)))) (says α γ y (ws .0)) $ heard t ((y ≡ x) × (ws .0 ≡ s)) (λ e.
-        fsplit t $ rewrite t 0 (λ (s′ : Reader). ‵ (fres γ (Row κ .coded .code s′))) (e .1) refl $ move t (1 ∷ []) $ drop t $ move t (1 ∷ []) $ split t $ move t (1 ∷ []) $
+        fsplit t $ rewrite t 0 (λ (s′ : Reader). ‵ (fres γ (Row κ .coded .code s′))) (e .1) refl $
+        move t (1 ∷ []) $ drop t $ move t (1 ∷ []) $ split t $ move t (1 ∷ []) $
         rewrite t 0 (λ (y′ : T .Denot). ‵ (T .own y′ (w ∷ []))) (e .0) refl $ facts t T (Is T) (shows 𝓤 H A T) x (w ∷ []) (λ is.
         -- [the tokens; the last reader; the lender's part; the way back; …]
         split t $ move t (1 ∷ []) $ split t $ move t (1 ∷ []) $ drop t $ move t (2 ∷ 1 ∷ 0 ∷ []) $ back κ q b t tt s α γ $
@@ -231,11 +239,14 @@ module _ (κ : Lft) (q : Share) where
       abbrev pub to-new : New 𝓤 H A mem run .Ghost
       to-new = (((κ, tt), (q, tt), tt, (log, tt), (logVal (at-start log) ∷ [], tt)), tt)
 
-      asked-new : (W : Given 𝓤 H A) → ent 𝓤 (sep 𝓤 (sem 𝓤 H A (LogOwn κ (at-start log))) (A .lft κ q)) (sep 𝓤 (New 𝓤 H A mem run .pre to-new) (sem 𝓤 H A (LogOwn κ (at-start log))))
+      asked-new : (W : Given 𝓤 H A)
+          → ent 𝓤 (sep 𝓤 (sem 𝓤 H A (LogOwn κ (at-start log))) (A .lft κ q)) (sep 𝓤 (New 𝓤 H A mem run .pre to-new) (sem 𝓤 H A (LogOwn κ (at-start log))))
       asked-new W =
           qed W (‵ (LogOwn κ (at-start log)) ∷ ‵ (flft κ q) ∷ []) ∵
-          use1 W (‵ (LogOwn κ (at-start log)) ⊛ ‵ (LogOwn κ (at-start log))) (shr-slice-copy 𝓤 H A W (named 0) κ u8 .twice log (logVal (at-start log) ∷ [])) $ split ! $
-          nothing ! $ move ! (1 ∷ 0 ∷ []) $ fjoin ! $ nothing ! $ move ! (3 ∷ 0 ∷ []) $ join ! $ join ! $ nothing ! $ move ! (1 ∷ 0 ∷ []) $ join ! $ frame ! $ done !
+          use1 W (‵ (LogOwn κ (at-start log)) ⊛ ‵ (LogOwn κ (at-start log)))
+          (shr-slice-copy 𝓤 H A W (named 0) κ u8 .twice log (logVal (at-start log) ∷ [])) $ split ! $
+          nothing ! $ move ! (1 ∷ 0 ∷ []) $ fjoin ! $ nothing ! $ move ! (3 ∷ 0 ∷ []) $ join ! $ join ! $
+          nothing ! $ move ! (1 ∷ 0 ∷ []) $ join ! $ frame ! $ done !
 
       new-said : (r : Reader) → ent 𝓤 (ensured 𝓤 H A new.ended (new.clauses 𝓤 H A mem run) (κ, tt) (log, tt) tt r) (fact 𝓤 (r ≡ at-start log))
       new-said r =
@@ -264,14 +275,16 @@ module _ (κ : Lft) (q : Share) where
       {C : Calls 𝓤 H} {Λ : Loops 𝓤 H} {f : Name} {xs : List Operand} {d : Place} {rest : Code} {p : Post 𝓤 H} where
     pub calls-new : K → FmC 𝓤 H (W .laws) C → (mem : Memory → SProp 𝓤) (run : Routine → Fun 𝓤) → Triple 𝓤 (C f) (New 𝓤 H A mem run) → (log : RefT (List ℕ))
         → Opds K W (raw (New 𝓤 H A mem run .pre (to-new 𝓤 H A mem run log)) ∷ ‵ (LogOwn κ (at-start log)) ∷ Γ) E xs (logVal (at-start log) ∷ [])
-        → (Fits (reader-laws.mir erased) (val (at-start log)) → Seq K W (‵ (Own κ (at-start log)) ∷ ‵ (flft κ q) ∷ ‵ (LogOwn κ (at-start log)) ∷ Γ) (lands C Λ E d (val (at-start log)) rest p))
+        → (Fits (reader-laws.mir erased) (val (at-start log))
+        → Seq K W (‵ (Own κ (at-start log)) ∷ ‵ (flft κ q) ∷ ‵ (LogOwn κ (at-start log)) ∷ Γ) (lands C Λ E d (val (at-start log)) rest p))
         → Seq K W (‵ (LogOwn κ (at-start log)) ∷ ‵ (flft κ q) ∷ Γ) (runs C Λ E (seq (call f xs d) rest) p)
     calls-new t fm mem run known log os k =
         let r : Reader = at-start log in
         let R : RattleType = reader.the-row made in
         use2 W (raw (New 𝓤 H A mem run .pre (to-new 𝓤 H A mem run log)) ⊛ ‵ (LogOwn κ r)) (asked-new 𝓤 H A mem run log W) $ split t $
         calls-at t fm (New 𝓤 H A mem run) known (to-new 𝓤 H A mem run log) os (λ w.
-        use1 W (later (some (λ (y : Reader). ((‵ (flft κ q) ⊛ ‵ ftrue) ⊛ ‵ (R .own y (w ∷ []))) ⊛ raw (ensured 𝓤 H A new.ended (new.clauses 𝓤 H A mem run) (κ, tt) (log, tt) tt y)))) (id⊢ 𝓤 _) $
+        use1 W (later (some (λ (y : Reader). ((‵ (flft κ q) ⊛ ‵ ftrue) ⊛ ‵ (R .own y (w ∷ [])))
+        ⊛ raw (ensured 𝓤 H A new.ended (new.clauses 𝓤 H A mem run) (κ, tt) (log, tt) tt y)))) (id⊢ 𝓤 _) $
         await t tt $ pick t (λ y. split t $ move t (1 ∷ []) $ use1 W (raw (fact 𝓤 (y ≡ r))) (new-said 𝓤 H A mem run log y) $ heard t (y ≡ r) (λ e.
         split t $ split t $ move t (1 ∷ []) $ drop t $ move t (1 ∷ []) $ rewrite t 0 (λ (y′ : Reader). ‵ (R .own y′ (w ∷ []))) e refl $
         -- [what the reader owns; the token; what the log owns; …]

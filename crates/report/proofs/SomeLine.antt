@@ -62,7 +62,8 @@ run-lines : (log : List ℕ) → faultOf log ≡ 0 → 0 < length (runLines (ope
 unfolding SomeoneIsTrusted placeIn runLines
 run-lines log reads =
     let last : Register = afterSteps (openingIn log .register) (bodyOf log .steps) in
-    let some : 0 < tally 32 (trusted (bookOf last)) = rw (take-all (length (bodyOf log .steps)) (bodyOf log .steps) (omega arith)) at (someone-is-trusted log reads (length (bodyOf log .steps))) in
+    let some : 0 < tally 32 (trusted (bookOf last))
+    = rw (take-all (length (bodyOf log .steps)) (bodyOf log .steps) (omega arith)) at (someone-is-trusted log reads (length (bodyOf log .steps))) in
     simp length-append (omega (arith, some, offices-counted last 32))
 
 -- every report has some byte

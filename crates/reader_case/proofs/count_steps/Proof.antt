@@ -24,9 +24,11 @@ use prog.Wp.{Heap, Out, Env, Calls, Loops, Wp, WpFn, Tables, afterSeq, afterBloc
 use ghost.Atoms.{Atoms, sem}
 use contract.Monad.{Fun, fact}
 use contract.Running.{givenOf, tables, tablesOf}
-use types.Kit.{Given, Goal, Soaks, Seq, Sq, Item, runs, anyQ, atRet, ‵, raw, _⊛_, some, later, ⋆, _$_, _∵_, !, qed, by, move, keep, drop, use0, use1, split, join, pick, rewrite, fsplit, fjoin, suffices, frame, await, done}
+use types.Kit.{Given, Goal, Soaks, Seq, Sq, Item, runs, anyQ, atRet, ‵, raw, _⊛_, some, later, ⋆, _$_, _∵_, !, qed}
+use types.Kit.{by, move, keep, drop, use0, use1, split, join, pick, rewrite, fsplit, fjoin, suffices, frame, await, done}
 use types.Part.{whole as all, sub, look-in}
-use types.Run.{look, store, init, forget, stop, fld, from, load, addr, of-opd, and-then, no-more, assigns, land, land-last, first, skips, jumps, blocks, branches, exec, Below, again, loops, returns, enter, alloc1, alloc0, params1, pass1, pass0, free1, free0}
+use types.Run.{look, store, init, forget, stop, fld, from, load, addr, of-opd, and-then, no-more, assigns, land, land-last}
+use types.Run.{first, skips, jumps, blocks, branches, exec, Below, again, loops, returns, enter, alloc1, alloc0, params1, pass1, pass0, free1, free0}
 use sound.WpLaws.{FmC, fmOf, WpFn-mono}
 use denote.{RattleType.owns, Memory.pointee, Laws.Is, Laws.shows, Plain.uint-makes, Builtin.u8, Ref.RefT, Ref.now, Exit.yes}
 use denote.Signature.{plain}
@@ -102,12 +104,14 @@ IsCount c w = Is counts.the-row c (w ∷ [])
 
 -- a function that gives a count has returned w: it is the machine value of the count that the function ensures
 answered : {M : Type 1} {𝓤 : URA M} {H : Heap 𝓤} {A : Atoms 𝓤} {K : Type 0} {W : Given 𝓤 H A} {Γ : List (Item 𝓤)} {G : Goal 𝓤 H} {Said : Count → SProp 𝓤}
-    → K → Soaks G → (w : Val) (c : Count) → ((y : Count) → ent 𝓤 (Said y) (fact 𝓤 (y ≡ c))) → (T (hasTy counts-laws.mir w) × WT w → w ≡ val c → IsCount c (val c) → Seq K W Γ G)
+    → K → Soaks G → (w : Val) (c : Count) → ((y : Count) → ent 𝓤 (Said y) (fact 𝓤 (y ≡ c)))
+    → (T (hasTy counts-laws.mir w) × WT w → w ≡ val c → IsCount c (val c) → Seq K W Γ G)
     → Seq K W (raw (H .⇛ (ex 𝓤 (λ (y : Count). sep 𝓤 (sep 𝓤 (emp 𝓤) (sem 𝓤 H A (counts.the-row .own y (w ∷ [])))) (Said y)))) ∷ Γ) G
 answered {M} {𝓤} {H} {A} {K} {W} {Γ} {G} {Said} t z w c said k =
     use1 W (later (some (λ (y : Count). (‵ ftrue ⊛ ‵ (counts.the-row .own y (w ∷ []))) ⊛ raw (Said y)))) (id⊢ 𝓤 _) $ await t z $ pick t (λ y.
     split t $ move t (1 ∷ []) $ use1 W (raw (fact 𝓤 (y ≡ c))) (said y) $ heard t (y ≡ c) (λ e.
-    split t $ drop t $ rewrite t 0 (λ (y′ : Count). ‵ (counts.the-row .own y′ (w ∷ []))) e refl $ facts t counts.the-row (Is counts.the-row) (shows 𝓤 H A counts.the-row) c (w ∷ []) (λ is.
+    split t $ drop t $ rewrite t 0 (λ (y′ : Count). ‵ (counts.the-row .own y′ (w ∷ []))) e refl $
+    facts t counts.the-row (Is counts.the-row) (shows 𝓤 H A counts.the-row) c (w ∷ []) (λ is.
     let tells : w ∷ [] ≡ val c ∷ [] = struct.tells counts.the-type counts-laws.the-laws c (w ∷ []) is in
     k (struct.lawful counts.the-type counts-laws.the-laws 𝓤 H A W .typed c _ is .0) (ap only tells) (subst (Is counts.the-row c) tells is))))
 
@@ -165,7 +169,8 @@ module _ {M : Type 1} (𝓤 : URA M) (H : Heap 𝓤) (A : Atoms 𝓤) (mem : Mem
     to-from = ((tt, tt, tt, (number, tt), (vint w8 number ∷ [], tt)), tt)
 
     asked-from : Given 𝓤 H A → number < 2 ^ 8 → ent 𝓤 (emp 𝓤) (CountFrom .pre to-from)
-    asked-from W fits = qed W [] ∵ nothing ! $ nothing ! $ owned ! u8 (Is u8) (uint-makes 𝓤 H A W w8) number _ (refl, fits) $ fjoin ! $ nothing ! $ join ! $ frame ! $ done !
+    asked-from W fits =
+        qed W [] ∵ nothing ! $ nothing ! $ owned ! u8 (Is u8) (uint-makes 𝓤 H A W w8) number _ (refl, fits) $ fjoin ! $ nothing ! $ join ! $ frame ! $ done !
 
     from-said : (c : Count) → ent 𝓤 (ensured 𝓤 H A count-from.ended (count-from.clauses 𝓤 H A mem run) tt (number, tt) tt c) (fact 𝓤 (c ≡ opened number))
     from-said c = exE 𝓤 _ (λ ws. snd∗ 𝓤 (sem 𝓤 H A (lasts count-from.ended tt (number, tt) ws)) (fact 𝓤 (c ≡ opened number)))
@@ -179,9 +184,11 @@ module _ {M : Type 1} (𝓤 : URA M) (H : Heap 𝓤) (A : Atoms 𝓤) (mem : Mem
     asked-with W more is =
         qed W [] ∵ says ! (count-few log (s .count) _ more (s .whole-is)) $ nothing ! $
         owned ! item.the-row (Is item.the-row) (enum.makes item.the-type item-laws.the-plain 𝓤 H A) (itemAt log (s .at) .item) _ is $ fjoin ! $
-        owned ! counts.the-row (Is counts.the-row) (struct.makes counts.the-type counts-laws.the-plain 𝓤 H A) (s .count) _ (s .is) $ fjoin ! $ nothing ! $ done !
+        owned ! counts.the-row (Is counts.the-row) (struct.makes counts.the-type counts-laws.the-plain 𝓤 H A) (s .count) _ (s .is) $
+        fjoin ! $ nothing ! $ done !
 
-    with-said : (c : Count) → ent 𝓤 (ensured 𝓤 H A with-item.ended (with-item.clauses 𝓤 H A mem run) tt (s .count, (itemAt log (s .at) .item, tt)) tt c) (fact 𝓤 (c ≡ grown s))
+    with-said : (c : Count)
+        → ent 𝓤 (ensured 𝓤 H A with-item.ended (with-item.clauses 𝓤 H A mem run) tt (s .count, (itemAt log (s .at) .item, tt)) tt c) (fact 𝓤 (c ≡ grown s))
     with-said c = exE 𝓤 _ (λ ws. snd∗ 𝓤 (sem 𝓤 H A (lasts with-item.ended tt (s .count, (itemAt log (s .at) .item, tt)) ws)) (fact 𝓤 (c ≡ grown s)))
 
 -- ---- the walk
@@ -221,7 +228,8 @@ module _ {M : Type 1} (𝓤 : URA M) (H : Heap 𝓤) (A : Atoms 𝓤) (W : Given
   exits : (c : Count) → IsCount c (val c) → c ≡ countOf (now log) → ent 𝓤 (⋆ 𝓤 H A (‵ (flft κ q) ∷ ‵ Log ∷ [])) (AtEnd (val c))
   exits c is e =
       qed W (‵ (flft κ q) ∷ ‵ Log ∷ []) ∵
-      suffices ! _ (ends-at 𝓤 H A count-steps.ended stayed (count-steps.clauses 𝓤 H A mem run) W (((κ, tt), (q, tt), tt, (log, tt), (v ∷ [], tt)), tt) (val c) c (tt, tt) (tt, tt)) $
+      suffices ! _ (ends-at 𝓤 H A count-steps.ended stayed (count-steps.clauses 𝓤 H A mem run) W
+      (((κ, tt), (q, tt), tt, (log, tt), (v ∷ [], tt)), tt) (val c) c (tt, tt) (tt, tt)) $
       says ! e $ owned ! counts.the-row (Is counts.the-row) (struct.makes counts.the-type counts-laws.the-plain 𝓤 H A) c _ is $
       -- [what the count owns; the token; what the log owns]
       nothing ! $ move ! (2 ∷ 0 ∷ []) $ join ! $ frame ! $ nothing ! $ move ! (2 ∷ 0 ∷ []) $ fjoin ! $ frame ! $ done !
@@ -243,12 +251,15 @@ module _ {M : Type 1} (𝓤 : URA M) (H : Heap 𝓤) (A : Atoms 𝓤) (W : Given
         ∷ (readerTy, l₆) ∷ (lentTy, l₇) ∷ (tyBool, l₈) ∷ (lentTy, l₉) ∷ []
 
     -- what the walk has behind `new`: the reader in `_2`, what the log owns, c of `_4` and o of `_3`, and room for every other local. It stands so:
-    -- [0, 1, 2: the reader, as `Held`; 3: what the log owns; 4: _9; 6: _8; 8: _7; 10: _6; 12: _5; 14: _4; 16: _3; 18: that _2 dies; 19: _1; 21: _0], and after each other local that it dies
+    -- [0, 1, 2: the reader, as `Held`; 3: what the log owns; 4: _9; 6: _8; 8: _7; 10: _6; 12: _5; 14: _4; 16: _3; 18: that _2 dies; 19: _1; 21: _0],
+    -- and after each other local that it dies
     abbrev Around : Reader → (c o : Fml) → List (Item 𝓤)
     Around r c o =
-        Held κ q l₂ r ++ (‵ Log ∷ ‵ (froom lentTy l₉ 0) ∷ ‵ (fdies lentTy l₉) ∷ ‵ (froom tyBool l₈ 0) ∷ ‵ (fdies tyBool l₈) ∷ ‵ (froom lentTy l₇ 0) ∷ ‵ (fdies lentTy l₇)
-        ∷ ‵ (froom readerTy l₆ 0) ∷ ‵ (fdies readerTy l₆) ∷ ‵ (froom item-laws.mir l₅ 0) ∷ ‵ (fdies item-laws.mir l₅) ∷ ‵ c ∷ ‵ (fdies counts-laws.mir l₄)
-        ∷ ‵ o ∷ ‵ (fdies opening-laws.mir l₃) ∷ ‵ (fdies readerTy l₂) ∷ ‵ (froom logTy l₁ 0) ∷ ‵ (fdies logTy l₁) ∷ ‵ (froom counts-laws.mir l₀ 0) ∷ ‵ (fdies counts-laws.mir l₀) ∷ [])
+        Held κ q l₂ r ++ (‵ Log
+        ∷ ‵ (froom lentTy l₉ 0) ∷ ‵ (fdies lentTy l₉) ∷ ‵ (froom tyBool l₈ 0) ∷ ‵ (fdies tyBool l₈) ∷ ‵ (froom lentTy l₇ 0) ∷ ‵ (fdies lentTy l₇)
+        ∷ ‵ (froom readerTy l₆ 0) ∷ ‵ (fdies readerTy l₆) ∷ ‵ (froom item-laws.mir l₅ 0) ∷ ‵ (fdies item-laws.mir l₅)
+        ∷ ‵ c ∷ ‵ (fdies counts-laws.mir l₄) ∷ ‵ o ∷ ‵ (fdies opening-laws.mir l₃) ∷ ‵ (fdies readerTy l₂)
+        ∷ ‵ (froom logTy l₁ 0) ∷ ‵ (fdies logTy l₁) ∷ ‵ (froom counts-laws.mir l₀ 0) ∷ ‵ (fdies counts-laws.mir l₀) ∷ [])
 
     -- the loop's invariant
     abbrev At : State (now log) → List (Item 𝓤)
@@ -256,7 +267,9 @@ module _ {M : Type 1} (𝓤 : URA M) (H : Heap 𝓤) (A : Atoms 𝓤) (W : Given
 
     -- where a turn ends: in the invariant at a nearer state, or the loop is left and the rest of the body runs
     abbrev Turned : State (now log) → Out → SProp 𝓤
-    Turned s = afterTurn 𝓤 H (Below 𝓤 H A (Nearer (now log)) At s) (afterBlock 𝓤 H (afterSeq 𝓤 H (Wp 𝓤 H C Λ E pieces.t-7 (atReturn 𝓤 H E AtEnd)) (atReturn 𝓤 H E AtEnd)))
+    Turned s =
+        afterTurn 𝓤 H (Below 𝓤 H A (Nearer (now log)) At s)
+        (afterBlock 𝓤 H (afterSeq 𝓤 H (Wp 𝓤 H C Λ E pieces.t-7 (atReturn 𝓤 H E AtEnd)) (atReturn 𝓤 H E AtEnd)))
 
     -- a turn behind its test, which the generated MIR has under no name
     abbrev reads : Body
@@ -275,7 +288,8 @@ module _ {M : Type 1} (𝓤 : URA M) (H : Heap 𝓤) (A : Atoms 𝓤) (W : Given
         (λ more. skips ! $ exec ! C Λ E reads (anyQ (Turned s)) $
         -- _9 = &mut _2; _5 = next(_9)
         assigns ! (addr ! (from ! (stop !))) (from ! (stop !)) (init ! 4 refl (tt, tt)) $
-        calls-next κ q ! fm mem run (known .of-next) l₂ (reader-at (s .at)) (λ α γ. and-then ! (load ! (from ! (stop !)) (look ! 4 refl)) (no-more !)) (λ item-fits item-is.
+        calls-next κ q ! fm mem run (known .of-next) l₂ (reader-at (s .at))
+        (λ α γ. and-then ! (load ! (from ! (stop !)) (look ! 4 refl)) (no-more !)) (λ item-fits item-is.
         land ! (from ! (stop !)) (init ! 12 refl item-fits) $
         -- _4 = with_item(_4, _5)
         use0 W (raw (WithItem 𝓤 H A mem run .pre (to-with 𝓤 H A mem run s (read-val s))))
@@ -291,13 +305,15 @@ module _ {M : Type 1} (𝓤 : URA M) (H : Heap 𝓤) (A : Atoms 𝓤) (W : Given
         assigns ! (of-opd ! (load ! (from ! (stop !)) (look ! 14 refl))) (from ! (stop !))
         (init ! 21 refl (struct.lawful counts.the-type counts-laws.the-laws 𝓤 H A W .typed (s .count) _ (s .is) .0)) $
         returns ! (look ! 21 refl) $ forget ! 0 refl $ forget ! 6 refl $ forget ! 14 refl $ forget ! 21 refl $
-        move ! (21 ∷ 22 ∷ []) $ free1 ! $ move ! (19 ∷ 20 ∷ []) $ free1 ! $ move ! (0 ∷ 18 ∷ []) $ free1 ! $ move ! (15 ∷ 16 ∷ []) $ free1 ! $ move ! (13 ∷ 14 ∷ []) $ free1 ! $
-        move ! (11 ∷ 12 ∷ []) $ free1 ! $ move ! (9 ∷ 10 ∷ []) $ free1 ! $ move ! (7 ∷ 8 ∷ []) $ free1 ! $ move ! (5 ∷ 6 ∷ []) $ free1 ! $ move ! (3 ∷ 4 ∷ []) $ free1 ! $ free0 ! $
+        move ! (21 ∷ 22 ∷ []) $ free1 ! $ move ! (19 ∷ 20 ∷ []) $ free1 ! $ move ! (0 ∷ 18 ∷ []) $ free1 ! $ move ! (15 ∷ 16 ∷ []) $ free1 ! $
+        move ! (13 ∷ 14 ∷ []) $ free1 ! $ move ! (11 ∷ 12 ∷ []) $ free1 ! $ move ! (9 ∷ 10 ∷ []) $ free1 ! $ move ! (7 ∷ 8 ∷ []) $ free1 ! $
+        move ! (5 ∷ 6 ∷ []) $ free1 ! $ move ! (3 ∷ 4 ∷ []) $ free1 ! $ free0 ! $
         -- [what the reader owns; the token; what the log owns]
         keep ! (1 ∷ 2 ∷ []) $ by ! (exits (s .count) (s .is) (sym (count-over (s .count) _ (fails _ over)) ∙ s .whole-is)))
 
     counts-on : Is opening.the-row start (opened-val (at-start log) ∷ [])
-        → Sq W (Around (reader-at (start .next)) (froom counts-laws.mir l₄ 0) (fat fullShare opening-laws.mir l₃ 0 (opened-val (at-start log)))) (runs C Λ E pieces.t-5 (atRet E AtEnd))
+        → Sq W (Around (reader-at (start .next)) (froom counts-laws.mir l₄ 0) (fat fullShare opening-laws.mir l₃ 0 (opened-val (at-start log))))
+        (runs C Λ E pieces.t-5 (atRet E AtEnd))
     counts-on is =
         -- `Around` the reader behind the opening, with the opening in _3
         -- _4 = count_from(_3.refusal)
@@ -306,7 +322,8 @@ module _ {M : Type 1} (𝓤 : URA M) (H : Heap 𝓤) (A : Atoms 𝓤) (W : Given
         calls-at ! fm (CountFrom 𝓤 H A mem run) (known .of-count-from) (to-from 𝓤 H A mem run (start .refusal))
         (and-then ! (load ! (from ! (fld ! refl (stop !))) (look-in ! 17 (sub ! 1 refl (all !)))) (no-more !)) (λ w.
         answered ! tt w (opened (start .refusal)) (from-said 𝓤 H A mem run (start .refusal)) (λ count-fits tells count-is.
-        land ! (from ! (stop !)) (init ! 14 refl count-fits) $ rewrite ! 14 (λ (u : Val). ‵ (fat fullShare counts-laws.mir l₄ 0 u)) tells refl $ forget ! 16 refl $
+        land ! (from ! (stop !)) (init ! 14 refl count-fits) $
+        rewrite ! 14 (λ (u : Val). ‵ (fat fullShare counts-laws.mir l₄ 0 u)) tells refl $ forget ! 16 refl $
         -- the loop
         first ! $ blocks ! $ loops ! 𝓣 (Nearer (now log)) (nearer-wf (now log)) At turn (behind-opening (now log) count-is)))
 
@@ -315,14 +332,18 @@ module _ {M : Type 1} (𝓤 : URA M) (H : Heap 𝓤) (A : Atoms 𝓤) (W : Given
         -- `Around` the reader at the log's start
         -- _7 = &mut _2; _3 = open(_7)
         assigns ! (addr ! (from ! (stop !))) (from ! (stop !)) (init ! 8 refl (tt, tt)) $
-        calls-open κ q ! fm mem run (known .of-open) l₂ (at-start log) (λ α γ. and-then ! (load ! (from ! (stop !)) (look ! 8 refl)) (no-more !)) (λ opening-fits opening-is.
+        calls-open κ q ! fm mem run (known .of-open) l₂ (at-start log)
+        (λ α γ. and-then ! (load ! (from ! (stop !)) (look ! 8 refl)) (no-more !)) (λ opening-fits opening-is.
         land ! (from ! (stop !)) (init ! 16 refl opening-fits) $ forget ! 8 refl $ counts-on opening-is)
 
-  walk : Is (ShrSlice (named 0) κ u8) log (v ∷ []) → ent 𝓤 (onEntry 𝓤 H A count-steps.signature (κ, tt) (q, tt) (log, tt) (v ∷ [], tt)) (WpFn 𝓤 H C Λ code.function (v ∷ []) AtEnd)
+  walk : Is (ShrSlice (named 0) κ u8) log (v ∷ [])
+      → ent 𝓤 (onEntry 𝓤 H A count-steps.signature (κ, tt) (q, tt) (log, tt) (v ∷ [], tt)) (WpFn 𝓤 H C Λ code.function (v ∷ []) AtEnd)
   walk is =
-      qed W ((‵ (flft κ q) ⊛ ‵ ftrue) ∷ ‵ (owns (ShrSlice (named 0) κ u8 ∷ []) (log, tt) (v ∷ [], tt)) ∷ []) ∵ split ! $ move ! (2 ∷ []) $ fsplit ! $ keep ! (0 ∷ 2 ∷ []) $
+      qed W ((‵ (flft κ q) ⊛ ‵ ftrue) ∷ ‵ (owns (ShrSlice (named 0) κ u8 ∷ []) (log, tt) (v ∷ [], tt)) ∷ []) ∵
+      split ! $ move ! (2 ∷ []) $ fsplit ! $ keep ! (0 ∷ 2 ∷ []) $
       enter ! C Λ code.function (v ∷ []) _ $
-      alloc1 ! (λ l₀. alloc1 ! (λ l₁. alloc1 ! (λ l₂. alloc1 ! (λ l₃. alloc1 ! (λ l₄. alloc1 ! (λ l₅. alloc1 ! (λ l₆. alloc1 ! (λ l₇. alloc1 ! (λ l₈. alloc1 ! (λ l₉. alloc0 ! $ params1 ! $
+      alloc1 ! (λ l₀. alloc1 ! (λ l₁. alloc1 ! (λ l₂. alloc1 ! (λ l₃. alloc1 ! (λ l₄.
+      alloc1 ! (λ l₅. alloc1 ! (λ l₆. alloc1 ! (λ l₇. alloc1 ! (λ l₈. alloc1 ! (λ l₉. alloc0 ! $ params1 ! $
       pass1 ! (init ! 16 refl (shr-slice-lawful 𝓤 H A W (named 0) κ u8 .typed log (v ∷ []) is .0)) $ pass0 ! $ move ! (20 ∷ 21 ∷ []) $
       -- [what the log owns; the token; room for _9; …; _1; …; room for _0; …]
       -- _6 = new(_1)
@@ -333,12 +354,14 @@ module _ {M : Type 1} (𝓤 : URA M) (H : Heap 𝓤) (A : Atoms 𝓤) (W : Given
       assigns ! (of-opd ! (load ! (from ! (stop !)) (look ! 9 refl))) (from ! (stop !)) (init ! 17 refl reader-fits) $
       forget ! 9 refl $ forget ! 19 refl $ move ! (17 ∷ []) $ opens-on l₀ l₁ l₂ l₃ l₄ l₅ l₆ l₇ l₈ l₉)))))))))))
 
-count-steps-meets : {M : Type 1} (𝓤 : URA M) (H : Heap 𝓤) (A : Atoms 𝓤) (W : Given 𝓤 H A) (mem : Memory → SProp 𝓤) (run : Routine → Fun 𝓤) (𝓣 : Tables 𝓤 H)
+count-steps-meets : {M : Type 1} (𝓤 : URA M) (H : Heap 𝓤) (A : Atoms 𝓤) (W : Given 𝓤 H A)
+    (mem : Memory → SProp 𝓤) (run : Routine → Fun 𝓤) (𝓣 : Tables 𝓤 H)
     → Known 𝓤 H A mem run (𝓣 .C) → Meets 𝓤 H A count-steps.signature (WpFn 𝓤 H (𝓣 .C) (𝓣 .Λ) code.function) (count-steps.spec 𝓤 H A mem run)
 count-steps-meets 𝓤 H A W mem run 𝓣 known =
     walk-meets 𝓤 H A count-steps.ended stayed W (goes-none-slice 𝓤 H A W 1 (0 ∷ []) tt (plain (λ _. u8)) yes, tt) (count-steps.clauses 𝓤 H A mem run)
     (WpFn 𝓤 H (𝓣 .C) (𝓣 .Λ) code.function) (WpFn-mono 𝓤 H (W .laws) 𝓣 code.function)
-    (walked 𝓤 H A count-steps.ended stayed (count-steps.clauses 𝓤 H A mem run) (WpFn 𝓤 H (𝓣 .C) (𝓣 .Λ) code.function) (λ _. (slice-vals, tt)) (λ κs. (shr-slice-tells (named 0) (κs .0) u8, tt))
+    (walked 𝓤 H A count-steps.ended stayed (count-steps.clauses 𝓤 H A mem run) (WpFn 𝓤 H (𝓣 .C) (𝓣 .Λ) code.function)
+    (λ _. (slice-vals, tt)) (λ κs. (shr-slice-tells (named 0) (κs .0) u8, tt))
     (λ κs qs _ a _ are. via 𝓤 _ (fst∗ 𝓤 _ (emp 𝓤)) (walk 𝓤 H A W mem run 𝓣 known (κs .0) (qs .0) (a .0) (are .0))))
 
 pub count-steps-spec : {M : Type 1} → stated.statement M
@@ -347,9 +370,14 @@ count-steps-spec 𝓤 H 𝓜 𝓖 𝓡 =
     entered 𝓤 H (tripleOf 𝓤 H (𝓖 .A) count-steps.signature (count-steps.spec 𝓤 H (𝓖 .A) (𝓜 .mem) (𝓡 .run)))
     (tables 𝓤 H 𝓜 𝓡 code.env .C) (tables 𝓤 H 𝓜 𝓡 code.env .Λ) #count-steps code.function (code.unfolded 𝓤 H 𝓜 𝓡)
     (count-steps-meets 𝓤 H (𝓖 .A) (givenOf 𝓤 H 𝓜 𝓖) (𝓜 .mem) (𝓡 .run) (tablesOf 𝓤 H 𝓜 (tables 𝓤 H 𝓜 𝓡 code.env)) (record {
-      of-new = cited 𝓤 H (New 𝓤 H (𝓖 .A) (𝓜 .mem) (𝓡 .run)) 𝓜 𝓡 code.env #new new-def.routine code.calls-packed-log·reader·Reader·new (new-thm.met 𝓤 H 𝓜 𝓖 𝓡);
-      of-open = cited 𝓤 H (Open 𝓤 H (𝓖 .A) (𝓜 .mem) (𝓡 .run)) 𝓜 𝓡 code.env #open open-def.routine code.calls-packed-log·reader·Reader·open (open-thm.met 𝓤 H 𝓜 𝓖 𝓡);
-      of-next = cited 𝓤 H (Next 𝓤 H (𝓖 .A) (𝓜 .mem) (𝓡 .run)) 𝓜 𝓡 code.env #next next-def.routine code.calls-packed-log·reader·Reader·next (next-thm.met 𝓤 H 𝓜 𝓖 𝓡);
-      of-count-from = cited 𝓤 H (CountFrom 𝓤 H (𝓖 .A) (𝓜 .mem) (𝓡 .run)) 𝓜 𝓡 code.env #count-from count-from-def.routine code.calls-reader-case·count-from (count-from-thm.met 𝓤 H 𝓜 𝓖 𝓡);
-      of-with-item = cited 𝓤 H (WithItem 𝓤 H (𝓖 .A) (𝓜 .mem) (𝓡 .run)) 𝓜 𝓡 code.env #with-item with-item-def.routine code.calls-reader-case·with-item (with-item-thm.met 𝓤 H 𝓜 𝓖 𝓡);
+      of-new = cited 𝓤 H (New 𝓤 H (𝓖 .A) (𝓜 .mem) (𝓡 .run)) 𝓜 𝓡 code.env
+          #new new-def.routine code.calls-packed-log·reader·Reader·new (new-thm.met 𝓤 H 𝓜 𝓖 𝓡);
+      of-open = cited 𝓤 H (Open 𝓤 H (𝓖 .A) (𝓜 .mem) (𝓡 .run)) 𝓜 𝓡 code.env
+          #open open-def.routine code.calls-packed-log·reader·Reader·open (open-thm.met 𝓤 H 𝓜 𝓖 𝓡);
+      of-next = cited 𝓤 H (Next 𝓤 H (𝓖 .A) (𝓜 .mem) (𝓡 .run)) 𝓜 𝓡 code.env
+          #next next-def.routine code.calls-packed-log·reader·Reader·next (next-thm.met 𝓤 H 𝓜 𝓖 𝓡);
+      of-count-from = cited 𝓤 H (CountFrom 𝓤 H (𝓖 .A) (𝓜 .mem) (𝓡 .run)) 𝓜 𝓡 code.env
+          #count-from count-from-def.routine code.calls-reader-case·count-from (count-from-thm.met 𝓤 H 𝓜 𝓖 𝓡);
+      of-with-item = cited 𝓤 H (WithItem 𝓤 H (𝓖 .A) (𝓜 .mem) (𝓡 .run)) 𝓜 𝓡 code.env
+          #with-item with-item-def.routine code.calls-reader-case·with-item (with-item-thm.met 𝓤 H 𝓜 𝓖 𝓡);
     }))

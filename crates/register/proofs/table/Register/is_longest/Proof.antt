@@ -40,11 +40,13 @@ returns-3 c =
     let at-if1 = at-if2 .before .before in
     let a = at-if1 .before .before .args in
     rw (fits at-if1)
-    (longest-seen (bookOf (a .self)) (a .office .0) (fits at-if1) (a .b .0) _ _ (sym (at-if2 .before .trusted-at .ensures) ∙ not-false _ (at-if2 .if2 .left))
+    (longest-seen (bookOf (a .self)) (a .office .0) (fits at-if1) (a .b .0) _ _
+    (sym (at-if2 .before .trusted-at .ensures) ∙ not-false _ (at-if2 .if2 .left))
     (small (at-if1 .before .before)) (at-view .view-in .ensures)
     (rw (← at-parents .parent-numbers .ensures .0, ← c .before .before .before .before .epoch-numbers .ensures .0) (c .is-longest .ensures)))
 
 pub is-longest-spec : {M : Type 1} → statement M
 is-longest-spec =
     tie.close
-    (tie.spec (λ c κs. search needs) returns (λ c κs. search needs) returns-2 (λ c κs. search needs) (λ c κs. search needs) (λ c κs. search needs) (λ c κs. search needs) returns-3)
+    (tie.spec (λ c κs. search needs) returns (λ c κs. search needs) returns-2
+    (λ c κs. search needs) (λ c κs. search needs) (λ c κs. search needs) (λ c κs. search needs) returns-3)
