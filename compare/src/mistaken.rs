@@ -141,26 +141,19 @@ pub fn compare(log: &Log, mistake: Mistake) -> String {
         None => text.push_str("No difference: both checkers give the same report of this log.\n"),
         Some(difference) => {
             put_difference(&mut text, log, &difference);
-            put(&mut text, format!("{reason}\n"));
+            text += &format!("{reason}\n");
         }
     }
     if let Some((one, other)) = parted(&register) {
-        put(&mut text, parted_words(&register, one, other));
+        text += &parted_words(&register, one, other);
     }
     text
-}
-
-fn put(text: &mut String, more: String) {
-    text.push_str(&more);
 }
 
 /// Where the reports differ, and both lines with the words of their refusals.
 fn put_difference(text: &mut String, log: &Log, difference: &Difference) {
     match log.steps.get(difference.index) {
-        Some(step) => put(
-            text,
-            format!("Step {}: {}\n", difference.index + 1, step_text(step)),
-        ),
+        Some(step) => *text += &format!("Step {}: {}\n", difference.index + 1, step_text(step)),
         None => text.push_str("All steps get the same answers; the offices' lines differ.\n"),
     }
     let is_step = difference.index < log.steps.len();
@@ -171,20 +164,16 @@ fn put_difference(text: &mut String, log: &Log, difference: &Difference) {
             String::new()
         };
         let row = format!("  {who}: {line:<12} {words}");
-        put(text, format!("{}\n", row.trim_end()));
+        *text += &format!("{}\n", row.trim_end());
     }
 }
 
 /// What a step's line says: accepted, or the refusal's word and meaning.
 fn answer_words(line: &str) -> String {
-    let number = line
-        .split(' ')
-        .nth(1)
-        .and_then(|number| number.parse().ok());
-    match number {
+    let number = line.split(' ').nth(1);
+    match number.and_then(|number| number.parse::<usize>().ok()) {
         None | Some(0) => "accepted".to_string(),
         Some(number) => {
-            let number: usize = number;
             let (word, meaning) = TABLE[number - 1];
             format!("{word}: {meaning}")
         }

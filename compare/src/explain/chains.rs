@@ -25,7 +25,7 @@ impl Standing {
         };
         for block in (1..=register.last_block().0).map(Block) {
             let parent = register.block(block).parent;
-            let is_link = is_link(&view, register, block);
+            let is_link = view.is_notarised_link(block);
             let below = standing.lengths[parent.index()].filter(|_| is_link);
             standing.notarised.push(view.notarised(block).holds);
             standing.lengths.push(below.map(|length| length + 1));
@@ -120,7 +120,7 @@ fn signed_outside(register: &Register, office: Office, block: Block) -> u32 {
 pub fn chain_faults(register: &Register, office: Office, last: Block) -> Option<String> {
     let view = register.view(office);
     let mut failing = chain(register, last);
-    failing.retain(|&block| !is_link(&view, register, block));
+    failing.retain(|&block| !view.is_notarised_link(block));
     failing.reverse();
     let more = failing.len().saturating_sub(NAMED_FAULTS);
     failing.truncate(NAMED_FAULTS);
@@ -135,12 +135,6 @@ pub fn chain_faults(register: &Register, office: Office, last: Block) -> Option<
         true => None,
         false => Some(named.join("; ")),
     }
-}
-
-/// A block that can stand in a notarised chain.
-fn is_link(view: &View, register: &Register, block: Block) -> bool {
-    let record = register.block(block);
-    view.notarised(block).holds && record.epoch > register.block(record.parent).epoch
 }
 
 fn link_fault(view: &View, register: &Register, office: Office, block: Block) -> String {

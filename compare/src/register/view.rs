@@ -92,7 +92,7 @@ impl View<'_> {
 
     /// A block that can stand in a notarised chain: notarised itself, and of a
     /// greater epoch than its parent.
-    fn is_notarised_link(&self, block: Block) -> bool {
+    pub fn is_notarised_link(&self, block: Block) -> bool {
         let record = self.register.block(block);
         self.notarised(block).holds && record.epoch > self.register.block(record.parent).epoch
     }

@@ -1,4 +1,5 @@
--- What is claimed of logs: one has no fault exactly when it reads as an opening with steps; then it is a run, its final chains agree and never go back, and some office is trusted.
+-- What is claimed of logs: one has no fault exactly when it reads as an opening with steps; then it is a run, its final chains agree and never go
+-- back, and some office is trusted.
 use Prim.Native.Nat.{ℕ, _≤_, _<_}
 use mathlib.Core.Path.{_≡_}
 use mathlib.Core.List.{List}
