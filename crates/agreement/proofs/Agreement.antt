@@ -17,11 +17,12 @@ use Rattle.register.proofs.Ranges.{Ranges}
 use Rattle.register.proofs.FitSteps.{ranges-step}
 use Rattle.register.proofs.Running.{after-append}
 use Rattle.register.specs.Tables.{trusted, finalOf, parentOf}
-use Rattle.register.specs.Chains.{chain, chainLength, begins, chainNotarised}
+use Rattle.register.specs.Chains.{chain, chainLength, begins}
 use Rattle.register.proofs.Chains.{parent-le, chain-genesis, chain-step, last-notarised}
 use Rattle.register.proofs.Finalising.{Consecutive}
-use Rattle.register.proofs.Growth.{Grows, grows-refl, grows-trans, trusted-kept, chain-same, length-kept, chain-notarised-kept, consecutive-kept}
+use Rattle.register.proofs.Growth.{Grows, grows-refl, grows-trans, trusted-kept, chain-same, length-kept}
 use Rattle.agreement.specs.Claim.{chainOf, finalChain, Trusted, Notarised, Begins, Agreement}
+use Rattle.agreement.proofs.Backing.{backed, Backed, chain-backed, chain-backed-kept, three-kept}
 use Rattle.agreement.proofs.Safety.{Finalised, genesis, middle, Safe, Lawful, signed-le}
 use Rattle.agreement.proofs.Preservation.{safe-step, forward-step}
 use Rattle.agreement.proofs.Steps.{lawful}
@@ -81,35 +82,42 @@ grows-moment run i =
     subst (λ (r : Register). Grows (bookOf (moment run i)) (bookOf r)) (to-last run i)
     (onward-after (drop i (run .steps)) (moment run i) (safe-moment run i) .grows)
 
--- a block other than genesis whose chain is notarised has been made
-notarised-le : {r : Book} (q e : ℕ) → Safe r → 0 < e → chainNotarised r q e ≡ true → e ≤ r .last .0
-notarised-le {r} q e safe pos n =
-    let on : _ = last-notarised r q e pos n in
-    signed-le safe (shared-signer safe q q e e pos pos on on .2)
+-- a block other than genesis whose chain is backed has been made
+backed-le : {r : Book} (e : ℕ) → Safe r → 0 < e → Backed r e → e ≤ r .last .0
+backed-le {r} e safe pos n =
+    let on : _ = last-notarised r (backed r) e pos n in
+    signed-le safe (shared-signer safe e e pos pos on on .2)
 
--- the middle one of three consecutive blocks of one moment is on every notarised chain of another that is at least as long
-on-other : {r s end : Book} → Grows r end → Grows s end → Safe s → Safe end → {p b c d : ℕ} (q e : ℕ) → b ≤ r .last .0
-    → Consecutive r p b c d → 0 < e → chainNotarised s q e ≡ true → chainLength r c ≤ chainLength s e → member c (chain s e) ≡ true
-on-other {r} {s} {end} gr gs safe safe-end {p} {b} {c} {d} q e l three pos n long =
-    let le : e ≤ s .last .0 = notarised-le q e safe pos n in
+-- the middle one of three consecutive blocks of one moment is on every backed chain of another that is at least as long
+on-other : {r s end : Book} → Grows r end → Grows s end → Safe s → Safe end → {b c d : ℕ} (e : ℕ) → b ≤ r .last .0
+    → Consecutive r (backed r) b c d → 0 < e → Backed s e → chainLength r c ≤ chainLength s e → member c (chain s e) ≡ true
+on-other {r} {s} {end} gr gs safe safe-end {b} {c} {d} e l three pos n long =
+    let le : e ≤ s .last .0 = backed-le e safe pos n in
     let lc : c ≤ r .last .0 = omega (arith, parent-le r b, three .parent) in
     subst (λ (x : List ℕ). member c x ≡ true) (chain-same gs e le)
-    (middle-on-chain safe-end q e (consecutive-kept gr l three) (chain-notarised-kept gs q e le n)
+    (middle-on-chain safe-end e (three-kept gr l three) (chain-backed-kept gs e le n)
     (omega (arith, length-kept gr c lc, length-kept gs e le)))
 
--- a final chain of one moment and a notarised chain of another, by how the final block became final
-agreed : {r s end : Book} → Grows r end → Grows s end → Safe s → Safe end → {p c : ℕ} (q e : ℕ) → Finalised r p c
-    → chainNotarised s q e ≡ true → length (chain r c) ≤ length (chain s e) → begins (chain r c) (chain s e) ≡ true
+-- a final chain of one moment and a backed chain of another, by how the final block became final
+agreed : {r s end : Book} → Grows r end → Grows s end → Safe s → Safe end → {c : ℕ} (e : ℕ) → Finalised r c → Backed s e
+    → length (chain r c) ≤ length (chain s e) → begins (chain r c) (chain s e) ≡ true
 unfolding begins
-agreed {r} {s} gr gs safe safe-end q e (genesis z) n long =
+agreed {r} {s} gr gs safe safe-end e (genesis z) n long =
     subst⁻¹ (λ (b : List ℕ). begins b (chain s e) ≡ true) (ap (chain r) z ∙ chain-genesis r) refl
-agreed {r} {s} gr gs safe safe-end {p} {c} q e (middle b d l three) n long =
+agreed {r} {s} gr gs safe safe-end {c} e (middle b d l three) n long =
     let own : chain r c ≡ c ∷ chain r (parentOf r c) = chain-step r c (three .middle) in
     let above : e ≡ 0 → ⊥ = λ z. omega (arith, ap length own, ap length (ap (chain s) z ∙ chain-genesis s)) in
-    subst⁻¹ (λ (b : List ℕ). begins b (chain s e) ≡ true) own (on-other gr gs safe safe-end q e l three (omega arith) n long)
+    subst⁻¹ (λ (b : List ℕ). begins b (chain s e) ≡ true) own (on-other gr gs safe safe-end e l three (omega arith) n long)
+
+-- In every run, the chain of a block that can be final at one moment begins every chain at least as long that is backed at another.
+pub agreed-moments : (run : Run) (i j : ℕ) {c : ℕ} (e : ℕ) → Finalised (bookOf (moment run i)) c → Backed (bookOf (moment run j)) e
+    → length (chain (bookOf (moment run i)) c) ≤ length (chain (bookOf (moment run j)) e)
+    → begins (chain (bookOf (moment run i)) c) (chain (bookOf (moment run j)) e) ≡ true
+agreed-moments run i j e = agreed (grows-moment run i) (grows-moment run j) (safe-moment run j) (safe-last run) e
 
 pub agreement : Agreement
 unfolding Agreement Trusted Notarised Begins finalChain chainOf
 agreement run i j p q e case =
-    agreed (grows-moment run i) (grows-moment run j) (safe-moment run j) (safe-last run) (q .0) (e .0)
-    (safe-moment run i .final (p .0) (case .finalist)) (case .notarised) (case .long)
+    let s : Book = bookOf (moment run j) in
+    agreed-moments run i j (e .0) (safe-moment run i .final (p .0) (case .finalist))
+    (chain-backed s (safe-moment run j .ranges .counts .offices) (q .0) (e .0) (case .notarised)) (case .long)

@@ -2,7 +2,7 @@
 use Prim.Native.Nat.{ℕ, zero, suc, _+_, _-_, _<_, _≤_}
 use mathlib.Core.Path.{_≡_, sym, ap, _∙_, subst, subst⁻¹}
 use mathlib.Core.Bool.{true}
-use mathlib.Core.List.{[], _∷_}
+use mathlib.Core.List.{List, [], _∷_}
 use mathlib.Core.Logic.{_⊎_, inl, inr}
 use native.Mathlib.Decide.{decLe}
 use native.Mathlib.Omega.{arith}
@@ -12,42 +12,57 @@ use Rattle.register.specs.declared.sorts.Office.{Office}
 use Rattle.register.specs.declared.step.Step.{Step}
 use Rattle.register.specs.declared.table.Register.{Register}
 use Rattle.register.specs.declared.book.Book.{Book}
-use Rattle.register.specs.Books.{block, bookOf}
+use Rattle.register.specs.Books.{bookOf}
 use Rattle.register.specs.Tables.{finalOf}
-use Rattle.register.specs.Chains.{chainNotarised}
+use Rattle.register.specs.Chains.{chain, begins}
 use Rattle.register.specs.Steps.{stepRule}
 use Rattle.register.proofs.Chains.{genesis-notarised}
 use Rattle.register.proofs.Finalising.{middle-notarised}
 use Rattle.register.proofs.Growth.{trusted-kept}
 use Rattle.register.proofs.Running.{after-append}
 use Rattle.register.specs.Runs.{afterSteps, ran, Run, opened, moment}
-use Rattle.agreement.specs.Claim.{chainOf, finalChain, Trusted, Notarised, Begins, Agreement, NeverPart, NeverBack, CallsAreMoments, BatchesAreMoments, OnlyAdded}
+use Rattle.agreement.specs.Claim.{finalChain, Trusted, Begins, NeverPart, NeverBack, CallsAreMoments, BatchesAreMoments, OnlyAdded}
+use Rattle.agreement.proofs.Backing.{backed, Backed}
 use Rattle.agreement.proofs.Safety.{Finalised, genesis, middle}
-use Rattle.agreement.proofs.Agreement.{Onward, onward-after, safe-moment, agreement}
+use Rattle.agreement.proofs.Agreement.{Onward, onward-after, safe-moment, agreed-moments}
 
--- a final chain is notarised in its office's view
-final-notarised : {r : Book} {p c : ℕ} → Finalised r p c → chainNotarised r p c ≡ true
-final-notarised {r} {p} (genesis z) = subst⁻¹ (λ (x : ℕ). chainNotarised r p x ≡ true) z (genesis-notarised r p)
-final-notarised (middle b d l three) = middle-notarised three
+-- the chain of a block that can be final is backed
+final-backed : {r : Book} {c : ℕ} → Finalised r c → Backed r c
+final-backed {r} (genesis z) = subst⁻¹ (Backed r) z (genesis-notarised r (backed r))
+final-backed (middle b d l three) = middle-notarised three
+
+-- In every run, of the chains of two blocks that can be final, each at a moment, one begins the other.
+pub finals-agree : (run : Run) (i j : ℕ) {c e : ℕ} → Finalised (bookOf (moment run i)) c → Finalised (bookOf (moment run j)) e
+    → (begins (chain (bookOf (moment run i)) c) (chain (bookOf (moment run j)) e) ≡ true)
+    ⊎ (begins (chain (bookOf (moment run j)) e) (chain (bookOf (moment run i)) c) ≡ true)
+finals-agree run i j {c} {e} fc fe = by (decLe (length chain-c) (length chain-e))
+  where
+    chain-c : List ℕ
+    chain-c = chain (bookOf (moment run i)) c
+
+    chain-e : List ℕ
+    chain-e = chain (bookOf (moment run j)) e
+
+    by : Dec (length chain-c ≤ length chain-e) → (begins chain-c chain-e ≡ true) ⊎ (begins chain-e chain-c ≡ true)
+    by (yes h) = inl (agreed-moments run i j e fc (final-backed fe) h)
+    by (no h) = inr (agreed-moments run j i c fe (final-backed fc) (omega arith))
+
+-- a trusted office's final block is such a block
+pub office-final : (run : Run) (i : ℕ) (p : Office) → Trusted (moment run i) p
+    → Finalised (bookOf (moment run i)) (finalOf (bookOf (moment run i)) (p .0))
+unfolding Trusted
+office-final run i p t = safe-moment run i .final (p .0) t
 
 -- the final chain that is not longer begins the other
 pub shorter-begins : (run : Run) (i j : ℕ) (p q : Office) → Trusted (moment run i) p → Trusted (moment run j) q
     → length (finalChain (moment run i) p) ≤ length (finalChain (moment run j) q)
     → Begins (finalChain (moment run i) p) (finalChain (moment run j) q)
-unfolding Agreement Trusted Notarised finalChain chainOf
-shorter-begins run i j p q tp tq short =
-    agreement run i j p q (block (finalOf (bookOf (moment run j)) (q .0)))
-    (record { finalist = tp; viewer = tq; notarised = final-notarised (safe-moment run j .final (q .0) tq); long = short })
+unfolding Begins finalChain
+shorter-begins run i j p q tp tq = agreed-moments run i j _ (office-final run i p tp) (final-backed (office-final run j q tq))
 
 pub never-part : NeverPart
-unfolding NeverPart
-never-part run i j p q tp tq = by (decLe (length (finalChain (moment run i) p)) (length (finalChain (moment run j) q)))
-  where
-    by : Dec (length (finalChain (moment run i) p) ≤ length (finalChain (moment run j) q))
-        → Begins (finalChain (moment run i) p) (finalChain (moment run j) q)
-        ⊎ Begins (finalChain (moment run j) q) (finalChain (moment run i) p)
-    by (yes h) = inl (shorter-begins run i j p q tp tq h)
-    by (no h) = inr (shorter-begins run j i q p tq tp (omega arith))
+unfolding NeverPart Begins finalChain
+never-part run i j p q tp tq = finals-agree run i j (office-final run i p tp) (office-final run j q tq)
 
 -- one more step is the step that stands there in the list
 pub one-more : (run : Run) (i : ℕ) → i < length (run .steps)

@@ -1,4 +1,5 @@
 -- The proofs of the claims, in this order.
+pub mod Backing
 pub mod Safety
 pub mod Preservation
 pub mod Steps

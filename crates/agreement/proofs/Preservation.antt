@@ -14,7 +14,8 @@ use Rattle.register.specs.Chains.{chainLength, chainNotarised}
 use Rattle.register.proofs.Accepted.{trusted-below}
 use Rattle.register.proofs.Chains.{parent-le}
 use Rattle.register.proofs.Ranges.{Ranges}
-use Rattle.register.proofs.Growth.{Grows, trusted-kept, parent-kept, epoch-kept, length-kept, chain-notarised-kept, consecutive-kept}
+use Rattle.register.proofs.Growth.{Grows, trusted-kept, parent-kept, epoch-kept, length-kept, chain-notarised-kept}
+use Rattle.agreement.proofs.Backing.{three-kept}
 use Rattle.agreement.proofs.Safety.{Signature, Vouched, Before, Ordered, same, before, after, Finalised, genesis, middle, Safe, NewFinal, Signing, News, Clock, still, later, Lawful, signed-le, longest-notarised, longest-most}
 
 module _ {r s : Book} (safe : Safe r) (ranges : Ranges s) (step : Lawful r s) where
@@ -131,12 +132,12 @@ module _ {r s : Book} (safe : Safe r) (ranges : Ranges s) (step : Lawful r s) wh
   vouched-all h x m t (inl o) = vouched-old h x t o
   vouched-all h x m t (inr n) = vouched-new h x (n .1)
 
-  finalised-old : {p c : ℕ} → Finalised r p c → Finalised s p c
+  finalised-old : {c : ℕ} → Finalised r c → Finalised s c
   finalised-old (genesis e) = genesis e
-  finalised-old (middle b d l t) = middle b d (omega (arith, step .grows .last)) (consecutive-kept (step .grows) l t)
+  finalised-old (middle b d l t) = middle b d (omega (arith, step .grows .last)) (three-kept (step .grows) l t)
 
-  final-all : (p : ℕ) → Finalised r p (finalOf r p) → (finalOf s p ≡ finalOf r p) ⊎ NewFinal r s p → Finalised s p (finalOf s p)
-  final-all p f (inl e) = subst⁻¹ (Finalised s p) e (finalised-old f)
+  final-all : (p : ℕ) → Finalised r (finalOf r p) → (finalOf s p ≡ finalOf r p) ⊎ NewFinal r s p → Finalised s (finalOf s p)
+  final-all p f (inl e) = subst⁻¹ (Finalised s) e (finalised-old f)
   final-all p f (inr n) = n .final
 
   pub safe-step : Safe s

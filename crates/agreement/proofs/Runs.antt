@@ -24,7 +24,7 @@ use Rattle.register.specs.declared.table.Stepped.{Stepped}
 use Rattle.register.specs.Books.{office, epoch, block, bookOf, registerOf}
 use Rattle.register.specs.Tables.{isVote}
 use Rattle.register.specs.Views.{stage, signed, signerSet, notarised, signersOn, notarisedTest}
-use Rattle.register.specs.Chains.{chain, begins, chainNotarised, longest}
+use Rattle.register.specs.Chains.{chain, begins, chainNotarisedBy, longest}
 use Rattle.register.specs.Fitness.{countsFit, blockFits, messageFits, stateFits, fit}
 use Rattle.register.specs.Refusals.{consecutive, finalises}
 use Rattle.register.specs.Opening.{leaderTable, blank, freshBook, fresh, opening}
@@ -202,7 +202,7 @@ pub record Forked : Type 0 where
 
 -- they do, as the rules compute
 pub runs-show : Started × Forked
-unfolding finalChain chainOf Trusted Notarised moment start start-steps fork fork-steps answers afterSteps stepRule bookOf registerOf opened opening fresh openingRefusal untrusted tooMany stray choose both either between conj all any lowest every tally weigh unit digit fill setOf withMember withStage first enough trustedIn madeIn parentIn epochIn matchesIn namedIn saysIn climb chainBy isVote stage signed signerSet notarised signersOn chain chainNotarised longest countsFit blockFits messageFits stateFits fit consecutive finalises leaderTable blank freshBook withBlock withNamed sentStage withSent withMoved withActed withState withNextEpoch ruleOf refusal judged bookRule
+unfolding finalChain chainOf Trusted Notarised moment start start-steps fork fork-steps answers afterSteps stepRule bookOf registerOf opened opening fresh openingRefusal untrusted tooMany stray choose both either between conj all any lowest every tally weigh unit digit fill setOf withMember withStage first enough trustedIn madeIn parentIn epochIn matchesIn namedIn saysIn climb chainBy isVote stage signed signerSet notarised signersOn chain chainNotarisedBy longest countsFit blockFits messageFits stateFits fit consecutive finalises leaderTable blank freshBook withBlock withNamed sentStage withSent withMoved withActed withState withNextEpoch ruleOf refusal judged bookRule
 runs-show = (
   record { refusals = refl; seen = record { finalist = refl; is-final = refl; viewer = refl; is-notarised = refl; is-chain = refl } },
   record { refusals = refl; seen = record { finalist = refl; is-final = refl; viewer = refl; is-notarised = refl; is-chain = refl }; later = refl; other = refl; forked = refl; shorter = refl; signed-there = refl; signed-elsewhere = refl; told-there = refl; told-elsewhere = refl; told-genesis = refl; told-nobody = refl },

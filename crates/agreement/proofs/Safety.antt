@@ -20,6 +20,7 @@ use Rattle.register.specs.Chains.{chainLength, chainNotarised, longer, longest}
 use Rattle.register.proofs.Ranges.{Ranges}
 use Rattle.register.proofs.Finalising.{Consecutive}
 use Rattle.register.proofs.Growth.{Grows}
+use Rattle.agreement.proofs.Backing.{backed}
 
 -- a message of the history has signer h and block x
 pub record Signature (r : Book) (h x : ℕ) : Type 0 where
@@ -46,10 +47,10 @@ pub data Ordered (r : Book) (x y : ℕ) : Type 0 where
   before : Before r x y → Ordered r x y
   after : Before r y x → Ordered r x y
 
--- a final block: genesis, or the middle one of three consecutive blocks
-pub data Finalised (r : Book) (p c : ℕ) : Type 0 where
-  genesis : c ≡ 0 → Finalised r p c
-  middle : (b d : ℕ) → b ≤ r .last .0 → Consecutive r p b c d → Finalised r p c
+-- a block that can be final: genesis, or the middle one of three consecutive blocks, the newest of which is on a chain that the history backs
+pub data Finalised (r : Book) (c : ℕ) : Type 0 where
+  genesis : c ≡ 0 → Finalised r c
+  middle : (b d : ℕ) → b ≤ r .last .0 → Consecutive r (backed r) b c d → Finalised r c
 
 -- what holds at every moment
 pub record Safe (r : Book) : Type 0 where
@@ -57,7 +58,7 @@ pub record Safe (r : Book) : Type 0 where
   pub few : 3 * tally (r .n) (λ q. not (trusted r q)) < r .n
   pub vouched : (h x : ℕ) → trusted r h ≡ true → Signature r h x → Vouched r h x
   pub ordered : (h x y : ℕ) → trusted r h ≡ true → Signature r h x → Signature r h y → Ordered r x y
-  pub final : (p : ℕ) → trusted r p ≡ true → Finalised r p (finalOf r p)
+  pub final : (p : ℕ) → trusted r p ≡ true → Finalised r (finalOf r p)
 
 -- a trusted office h, which was ready, signs block x of the current epoch, whose parent's chain is longest in its view
 pub record Signing (r s : Book) (h x : ℕ) : Type 0 where
@@ -79,7 +80,7 @@ pub data Clock (r s : Book) : Type 0 where
 
 -- office p has a new final block: it became final as it should, and its chain is not shorter than that of the one before
 pub record NewFinal (r s : Book) (p : ℕ) : Type 0 where
-  pub final : Finalised s p (finalOf s p)
+  pub final : Finalised s (finalOf s p)
   pub forward : chainLength r (finalOf r p) ≤ chainLength s (finalOf s p)
 
 -- what a step may do, as far as the claims depend on it

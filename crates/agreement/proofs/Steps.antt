@@ -37,9 +37,11 @@ use Rattle.register.proofs.Accepted.{Accepted, Signs, trusted-below}
 use Rattle.register.proofs.Judging.{judged-has}
 use Rattle.register.proofs.Naming.{MadeOf, named-keeps, named-has, named-made}
 use Rattle.register.proofs.Chains.{parent-le}
+use Rattle.register.proofs.Finalising.{consecutive-more}
 use Rattle.register.proofs.Ranges.{Ranges}
-use Rattle.register.proofs.Growth.{Grows, grows-refl, consecutive-kept}
+use Rattle.register.proofs.Growth.{Grows, grows-refl}
 use Rattle.register.proofs.Growing.{grows-state, grows-step}
+use Rattle.agreement.proofs.Backing.{notarised-backed, three-kept}
 use Rattle.agreement.proofs.Safety.{Signature, Finalised, middle, Signing, News, NewFinal, still, later, Lawful, signature}
 
 -- a step that is refused changes nothing
@@ -172,7 +174,7 @@ lawful-vote r office message z a grows =
     })
 
 -- one office's final block changes, and the others' stay
-finals-after : (r : Book) (q c p : ℕ) (state : OfficeState) → state .finalised .0 ≡ c → Finalised (withState r q state) q c
+finals-after : (r : Book) (q c p : ℕ) (state : OfficeState) → state .finalised .0 ≡ c → Finalised (withState r q state) c
     → chainLength r (finalOf r q) ≤ chainLength r c
     → (finalOf (withState r q state) p ≡ finalOf r p) ⊎ NewFinal r (withState r q state) p
 unfolding withState chain
@@ -188,7 +190,7 @@ finals-after r q c p state is three forward = by (ℕ-discrete p q) (decLt q (le
     own h =
         let now : finalOf end q ≡ c = ap final (getD-set-same (r .offices) q state _ h) ∙ is in
         record {
-          final = subst⁻¹ (Finalised end q) now three;
+          final = subst⁻¹ (Finalised end) now three;
           forward = subst⁻¹ (λ (x : ℕ). chainLength r (finalOf r q) ≤ chainLength end x) now forward;
         }
 
@@ -200,10 +202,10 @@ finals-after r q c p state is three forward = by (ℕ-discrete p q) (decLt q (le
         ∙ sym (ap final (List·getD-eq-default (r .offices) _ (omega arith))))
     by (no d) h = inl (ap final (getD-set-other (r .offices) q p state _ d))
 
-lawful-finalise : (r : Book) (office : Office) (newest : Block) → Accepted r (Step.Finalise office newest)
+lawful-finalise : (r : Book) (office : Office) (newest : Block) → Ranges r → Accepted r (Step.Finalise office newest)
     → Grows r (finalise r office newest .effect) → Lawful r (finalise r office newest .effect)
 unfolding withState
-lawful-finalise r office newest a grows =
+lawful-finalise r office newest z a grows =
     record {
       grows = grows;
       clock = still refl (λ x l a. a);
@@ -211,7 +213,9 @@ lawful-finalise r office newest a grows =
       news = λ x l. inl l;
       finals = λ p t.
           finals-after r (office .0) (parentOf r (newest .0)) p _ refl
-          (middle (newest .0) _ (a .block) (consecutive-kept (grows-state r (office .0) _) (a .block) (a .three))) (a .forward);
+          (middle (newest .0) _ (a .block)
+          (three-kept (grows-state r (office .0) _) (a .block)
+          (consecutive-more (notarised-backed r (z .counts .offices) (office .0)) (a .three)))) (a .forward);
     }
 
 -- a message of the history is a signature
@@ -254,7 +258,7 @@ unfolding ruleOf withMoved withBlock withNextEpoch
 lawful-accepted r (Step.Propose office parent w) z a g = lawful-propose r office parent w z a g
 lawful-accepted r (Step.Vote office message) z a g = lawful-vote r office message z a g
 lawful-accepted r (Step.Register office message) z a g = lawful-quiet r _ g refl refl refl refl
-lawful-accepted r (Step.Finalise office newest) z a g = lawful-finalise r office newest a g
+lawful-accepted r (Step.Finalise office newest) z a g = lawful-finalise r office newest z a g
 lawful-accepted r (Step.Deliver message office) z a g = lawful-quiet r _ g refl refl refl refl
 lawful-accepted r (Step.BadSend sender kind signer about) z a g = lawful-bad-send r sender kind signer about z a g
 lawful-accepted r (Step.Draft parent epoch w) z a g =

@@ -11,8 +11,9 @@ use Rattle.words.proofs.Clearing.{clear}
 use Rattle.tables.specs.Blocks.{trustedIn}
 use Rattle.register.specs.Types.{Office, Block, Message, Kind, Step, Header, Book}
 use Rattle.register.specs.Tables.{trusted, acted, finalOf, parentOf, epochOf, aboutOf}
+use Rattle.register.specs.Views.{notarised}
 use Rattle.register.specs.Chains.{chainLength, longest}
-use Rattle.register.specs.Refusals.{notInHand, inHistory, blocksFull}
+use Rattle.register.specs.Refusals.{finalises, notInHand, inHistory, blocksFull}
 use Rattle.register.specs.Steps.{propose, vote, register, finalise, deliver, badSend, draft, advance, ruleOf}
 use Rattle.register.proofs.Places.{Placed, placed}
 use Rattle.register.proofs.Finalising.{Consecutive, three-blocks}
@@ -48,7 +49,7 @@ pub record Votes (r : Book) (q m b : ℕ) : Type 0 where
 pub record Finalises (r : Book) (q b : ℕ) : Type 0 where
   pub block : b ≤ r .last .0
   pub trusted : trusted r q ≡ true
-  pub three : Consecutive r q b (parentOf r b) (parentOf r (parentOf r b))
+  pub three : Consecutive r (notarised r q) b (parentOf r b) (parentOf r (parentOf r b))
   pub forward : chainLength r (finalOf r q) ≤ chainLength r (parentOf r b)
 
 pub record BadSends (r : Book) (kind : Kind) (signer b : ℕ) : Type 0 where
@@ -109,12 +110,13 @@ module _ (r : Book) where
       }
 
   finalised : (office : Office) (newest : Block) → first (finalise r office newest .tests) ≡ 0 → Accepted r (Step.Finalise office newest)
+  unfolding finalises
   finalised office newest h =
       let fails = clear (finalise r office newest .tests) h in
       record {
         block = ltb-false _ _ (fails .1 .0);
         trusted = not-false _ (fails .1 .1 .0);
-        three = three-blocks r (office .0) (newest .0) (not-false _ (fails .1 .1 .1 .0));
+        three = three-blocks r (notarised r (office .0)) (newest .0) (not-false _ (fails .1 .1 .1 .0));
         forward = ltb-false _ _ (fails .1 .1 .1 .1 .0);
       }
 

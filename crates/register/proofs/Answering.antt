@@ -20,7 +20,7 @@ use Rattle.register.specs.Types.{Step, OfficeState, Book, Scalars, Chang
 use Rattle.register.specs.Books.{block, scalarsOf}
 use Rattle.register.specs.Tables.{trusted}
 use Rattle.register.specs.Views.{stage, signed, signers, notarised}
-use Rattle.register.specs.Chains.{chain, chainNotarised, longer, longest}
+use Rattle.register.specs.Chains.{chain, chainNotarisedBy, chainNotarised, longer, longest}
 use Rattle.register.specs.Refusals.{finalises, behind}
 use Rattle.register.specs.Steps.{ruleOf}
 use Rattle.register.specs.Lent.{lentBook, heldBook, blocks, messages}
@@ -58,7 +58,7 @@ module _ (s : Scalars) (parents epochs signers about places : List ℕ) (state :
 
   -- 21 asks for no office's state
   pub found-final : (x u : Bool) → x ≡ finalises lent q b → not x ≡ u → not (finalises held q b) ≡ u
-  unfolding finalises chainNotarised notarised signed stage chain
+  unfolding finalises chainNotarisedBy notarised signed stage chain
   found-final x u e f = ap not (sym e) ∙ f
 
   -- 32 asks for the final block of the office, which the table has
@@ -114,7 +114,7 @@ searched r =
 -- it has the same longest chains
 module _ (r : Book) (q : ℕ) where
   chain-searched : (b : ℕ) → chainNotarised r q b ≡ chainNotarised (searched r) q b
-  unfolding chainNotarised chain notarised signed stage
+  unfolding chainNotarisedBy chain notarised signed stage
   chain-searched b = refl
 
   longer-searched : (b x : ℕ) → longer r q b x ≡ longer (searched r) q b x

@@ -10,13 +10,12 @@ use borrow.Author.Tests.{eq-eqb, eqb-true, ltb-true}
 use lib.Dec.{eqb}
 use lib.ListN.{length}
 use Rattle.words.specs.Tests.{choose, both, every, member}
-use Rattle.words.proofs.Tests.{both-left, both-right, both-make, either-cases, either-left, either-right, clash, every-at}
+use Rattle.words.proofs.Tests.{both-left, both-right, both-make, either-cases, either-left, either-right, clash, every-at, every-same}
 use Rattle.tables.specs.Blocks.{madeIn, parentIn, epochIn}
 use Rattle.tables.proofs.Chains.{Down, parent-in-lt, chain-by-genesis, chain-by-step, climb-induction}
 use Rattle.register.specs.Types.{Book}
 use Rattle.register.specs.Tables.{parentOf, epochOf}
-use Rattle.register.specs.Views.{notarised}
-use Rattle.register.specs.Chains.{chain, chainLength, chainNotarised}
+use Rattle.register.specs.Chains.{chain, chainLength, chainNotarisedBy}
 
 -- a parent's number is smaller
 parent-lt : (r : Book) → Down (parentOf r)
@@ -80,26 +79,32 @@ unfolding every
 every-parent r p b h e =
     both-right (p b) (every p (chain r (parentOf r b))) (subst (λ (c : List ℕ). every p c ≡ true) (chain-step r b h) e)
 
+-- a chain that is notarised by a test is so by every test that its blocks then pass too
+pub notarised-more : (r : Book) {p p' : ℕ → Bool} → ((x : ℕ) → p x ≡ true → p' x ≡ true) → (b : ℕ)
+    → chainNotarisedBy r p b ≡ true → chainNotarisedBy r p' b ≡ true
+unfolding chainNotarisedBy
+notarised-more r {p} {p'} pass b n = both-make _ _ (both-left _ _ n) (every-same p p' (chain r b) (λ x m. pass x) (both-right _ _ n))
+
 -- the parent's chain of a notarised chain is notarised
-pub notarised-parent : (r : Book) (q b : ℕ) → 0 < b → chainNotarised r q b ≡ true → chainNotarised r q (parentOf r b) ≡ true
-unfolding chainNotarised
-notarised-parent r q b h n =
+pub notarised-parent : (r : Book) (p : ℕ → Bool) (b : ℕ) → 0 < b → chainNotarisedBy r p b ≡ true → chainNotarisedBy r p (parentOf r b) ≡ true
+unfolding chainNotarisedBy
+notarised-parent r p b h n =
     both-make _ _ (every-parent r _ b h (both-left _ _ n)) (every-parent r _ b h (both-right _ _ n))
 
--- the chain of genesis is notarised in every view
-pub genesis-notarised : (r : Book) (q : ℕ) → chainNotarised r q 0 ≡ true
-unfolding chainNotarised every both
-genesis-notarised r q = rw (chain-genesis r)
+-- the chain of genesis is notarised by every test
+pub genesis-notarised : (r : Book) (p : ℕ → Bool) → chainNotarisedBy r p 0 ≡ true
+unfolding chainNotarisedBy every both
+genesis-notarised r p = rw (chain-genesis r)
 
--- the last block of a notarised chain is notarised
-pub last-notarised : (r : Book) (q b : ℕ) → 0 < b → chainNotarised r q b ≡ true → notarised r q b ≡ true
-unfolding chainNotarised
-last-notarised r q b h n = every-at _ (chain r b) b (both-right _ _ n) (on-own-chain r b h)
+-- the last block of a notarised chain passes the test
+pub last-notarised : (r : Book) (p : ℕ → Bool) (b : ℕ) → 0 < b → chainNotarisedBy r p b ≡ true → p b ≡ true
+unfolding chainNotarisedBy
+last-notarised r p b h n = every-at _ (chain r b) b (both-right _ _ n) (on-own-chain r b h)
 
 -- and its epoch is later than its parent's
-pub last-later : (r : Book) (q b : ℕ) → 0 < b → chainNotarised r q b ≡ true → epochOf r (parentOf r b) < epochOf r b
-unfolding chainNotarised
-last-later r q b h n = ltb-true _ _ (every-at _ (chain r b) b (both-left _ _ n) (on-own-chain r b h))
+pub last-later : (r : Book) (p : ℕ → Bool) (b : ℕ) → 0 < b → chainNotarisedBy r p b ≡ true → epochOf r (parentOf r b) < epochOf r b
+unfolding chainNotarisedBy
+last-later r p b h n = ltb-true _ _ (every-at _ (chain r b) b (both-left _ _ n) (on-own-chain r b h))
 
 -- what passes from every block to its parent passes from a block to all on its chain
 on-chain-down : (r : Book) (P : ℕ → Type 0) → ((b : ℕ) → 0 < b → P b → P (parentOf r b)) → (x b : ℕ)
@@ -113,8 +118,9 @@ on-chain-down r P down x =
     (either-cases (eqb x b) (member x (chain r (parentOf r b))) (subst (λ (c : List ℕ). member x c ≡ true) (chain-step r b h) m)))
 
 -- the chain of every block on a notarised chain is notarised
-pub notarised-on : (r : Book) (q x b : ℕ) → member x (chain r b) ≡ true → chainNotarised r q b ≡ true → chainNotarised r q x ≡ true
-notarised-on r q = on-chain-down r (λ (y : ℕ). chainNotarised r q y ≡ true) (notarised-parent r q)
+pub notarised-on : (r : Book) (p : ℕ → Bool) (x b : ℕ) → member x (chain r b) ≡ true → chainNotarisedBy r p b ≡ true
+    → chainNotarisedBy r p x ≡ true
+notarised-on r p = on-chain-down r (λ (y : ℕ). chainNotarisedBy r p y ≡ true) (notarised-parent r p)
 
 -- a block on the chain of b is no greater than b
 pub on-chain-le : (r : Book) (x b : ℕ) → member x (chain r b) ≡ true → x ≤ b

@@ -10,40 +10,54 @@ use Rattle.words.proofs.Tests.{both-left, both-right}
 use Rattle.words.proofs.Clearing.{holds}
 use Rattle.register.specs.Types.{Book}
 use Rattle.register.specs.Tables.{parentOf, epochOf}
-use Rattle.register.specs.Chains.{chainNotarised}
-use Rattle.register.specs.Refusals.{consecutive, finalises}
-use Rattle.register.proofs.Chains.{notarised-parent}
+use Rattle.register.specs.Chains.{chainNotarisedBy}
+use Rattle.register.specs.Refusals.{consecutive, finalisesBy}
+use Rattle.register.proofs.Chains.{notarised-more, notarised-parent}
 
--- block b, its parent c and c's parent d have consecutive epochs, d alone may be genesis, and b's chain is notarised
-pub record Consecutive (r : Book) (q b c d : ℕ) : Type 0 where
+-- block b, its parent c and c's parent d have consecutive epochs, d alone may be genesis, and b's chain is notarised by a test of blocks
+pub record Consecutive (r : Book) (p : ℕ → Bool) (b c d : ℕ) : Type 0 where
   pub parent : parentOf r b ≡ c
   pub grandparent : parentOf r c ≡ d
   pub newest : 0 < b
   pub middle : 0 < c
   pub two-later : epochOf r b ≡ epochOf r d + 2
   pub one-later : epochOf r c ≡ epochOf r d + 1
-  pub chain : chainNotarised r q b ≡ true
+  pub chain : chainNotarisedBy r p b ≡ true
 
-module _ {r : Book} {q b c d : ℕ} (three : Consecutive r q b c d) where
+module _ {r : Book} {p : ℕ → Bool} {b c d : ℕ} (three : Consecutive r p b c d) where
   -- then c's chain is notarised too
-  pub middle-notarised : chainNotarised r q c ≡ true
+  pub middle-notarised : chainNotarisedBy r p c ≡ true
   middle-notarised =
-      subst (λ (x : ℕ). chainNotarised r q x ≡ true) (three .parent) (notarised-parent r q b (three .newest) (three .chain))
+      subst (λ (x : ℕ). chainNotarisedBy r p x ≡ true) (three .parent) (notarised-parent r p b (three .newest) (three .chain))
 
   -- and d's
-  pub oldest-notarised : chainNotarised r q d ≡ true
+  pub oldest-notarised : chainNotarisedBy r p d ≡ true
   oldest-notarised =
-      subst (λ (x : ℕ). chainNotarised r q x ≡ true) (three .grandparent) (notarised-parent r q c (three .middle) middle-notarised)
+      subst (λ (x : ℕ). chainNotarisedBy r p x ≡ true) (three .grandparent) (notarised-parent r p c (three .middle) middle-notarised)
+
+-- three consecutive blocks by a test are so by every test that the blocks then pass too
+pub consecutive-more : {r : Book} {p p' : ℕ → Bool} {b c d : ℕ} → ((x : ℕ) → p x ≡ true → p' x ≡ true) → Consecutive r p b c d
+    → Consecutive r p' b c d
+consecutive-more {r} {p} {p'} {b} pass three =
+    record {
+      parent = three .parent;
+      grandparent = three .grandparent;
+      newest = three .newest;
+      middle = three .middle;
+      two-later = three .two-later;
+      one-later = three .one-later;
+      chain = notarised-more r pass b (three .chain);
+    }
 
 -- a number that is not 0 is above 0
 positive : (x : ℕ) → not (eqb x 0) ≡ true → 0 < x
 positive x h = let n : x ≡ 0 → ⊥ = eqb-false x 0 (not-true (eqb x 0) h) in omega arith
 
--- the condition for finalising gives such three blocks
-pub three-blocks : (r : Book) (q b : ℕ) → finalises r q b ≡ true
-    → Consecutive r q b (parentOf r b) (parentOf r (parentOf r b))
-unfolding finalises consecutive
-three-blocks r q b h =
+-- the finalise rule gives such three blocks
+pub three-blocks : (r : Book) (p : ℕ → Bool) (b : ℕ) → finalisesBy r p b ≡ true
+    → Consecutive r p b (parentOf r b) (parentOf r (parentOf r b))
+unfolding consecutive
+three-blocks r p b h =
     let all = holds _ (both-left _ _ h) in
     record {
       parent = refl;
@@ -55,21 +69,20 @@ three-blocks r q b h =
       chain = both-right _ _ h;
     }
 
--- the condition, where c was found to be b's parent and d c's, and the test of the three blocks gave t
-module _ (r : Book) (q b c d : ℕ) (t : Bool) (parent : c ≡ parentOf r b) (grandparent : d ≡ parentOf r c)
+-- the rule, where c was found to be b's parent and d c's, and the test of the three blocks gave t
+module _ (r : Book) (p : ℕ → Bool) (b c d : ℕ) (t : Bool) (parent : c ≡ parentOf r b) (grandparent : d ≡ parentOf r c)
     (three : t ≡ consecutive (epochOf r) b c d)
   where
-    -- so the condition is that test and the chain's
-    finalises-by : finalises r q b ≡ both t (chainNotarised r q b)
-    unfolding finalises
+    -- so the rule is that test and the chain's
+    finalises-by : finalisesBy r p b ≡ both t (chainNotarisedBy r p b)
     finalises-by = rw (three, grandparent, parent)
 
     -- it failed
-    pub not-final : not t ≡ true → false ≡ finalises r q b
+    pub not-final : not t ≡ true → false ≡ finalisesBy r p b
     unfolding both
     not-final h = rw (finalises-by, not-true t h)
 
     -- it holds, and the chain's test decides
-    pub is-final : (x : Bool) → not t ≡ false → x ≡ chainNotarised r q b → x ≡ finalises r q b
+    pub is-final : (x : Bool) → not t ≡ false → x ≡ chainNotarisedBy r p b → x ≡ finalisesBy r p b
     unfolding both
     is-final x h e = rw (finalises-by, not-false t h) e

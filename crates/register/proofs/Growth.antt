@@ -18,8 +18,8 @@ use Rattle.register.specs.Types.{Header, Content, Book}
 use Rattle.register.specs.Limits.{mostOffices}
 use Rattle.register.specs.Tables.{trusted, made, headerOf, parentOf, epochOf, contentOf}
 use Rattle.register.specs.Views.{inView, says, signed, signs, signers, notarised}
-use Rattle.register.specs.Chains.{chain, chainLength, chainNotarised}
-use Rattle.register.proofs.Chains.{parent-le, on-chain-le, chain-kept}
+use Rattle.register.specs.Chains.{chain, chainLength, chainNotarisedBy, chainNotarised}
+use Rattle.register.proofs.Chains.{parent-le, on-chain-le, chain-kept, notarised-more}
 use Rattle.quorum.proofs.Enough.{enough-make, enough-least}
 use Rattle.register.proofs.Finalising.{Consecutive}
 
@@ -86,7 +86,7 @@ module _ {r s : Book} (g : Grows r s) where
   length-kept b l = ap length (chain-same b l)
 
   -- a message keeps what it says
-  says-kept : (q b m : ℕ) → m < r .count → says s q b m ≡ says r q b m
+  pub says-kept : (q b m : ℕ) → m < r .count → says s q b m ≡ says r q b m
   unfolding saysIn
   says-kept q b m l = ap (λ (x : Content). both (eqb (x .signer .0) q) (eqb (x .about .0) b)) (g .messages m l)
 
@@ -112,10 +112,10 @@ module _ {r s : Book} (g : Grows r s) where
       (λ e. either-right _ _ (enough-make _ (s .n) (omega (arith, g .n, more, enough-least _ (r .n) e))))
       (either-cases _ _ t)
 
-  -- a chain that is notarised in a view stays so
-  pub chain-notarised-kept : (q b : ℕ) → b ≤ r .last .0 → chainNotarised r q b ≡ true → chainNotarised s q b ≡ true
-  unfolding chainNotarised
-  chain-notarised-kept q b l t =
+  -- a chain that is notarised by a test stays so
+  pub notarised-by-kept : (p : ℕ → Bool) (b : ℕ) → b ≤ r .last .0 → chainNotarisedBy r p b ≡ true → chainNotarisedBy s p b ≡ true
+  unfolding chainNotarisedBy
+  notarised-by-kept p b l t =
       let low : (x : ℕ) → member x (chain r b) ≡ true → x ≤ r .last .0 = λ x m. omega (arith, on-chain-le r x b m) in
       let later : Book → ℕ → Bool = λ y x. ltb (epochOf y (parentOf y x)) (epochOf y x) in
       let later-kept : (x : ℕ) → member x (chain r b) ≡ true → later s x ≡ later r x =
@@ -126,12 +126,15 @@ module _ {r s : Book} (g : Grows r s) where
       both-make _ _
       (subst⁻¹ (λ (c : List ℕ). every (later s) c ≡ true) (chain-same b l)
       (every-same (later r) (later s) (chain r b) (λ x m h. later-kept x m ∙ h) (both-left _ _ t)))
-      (subst⁻¹ (λ (c : List ℕ). every (notarised s q) c ≡ true) (chain-same b l)
-      (every-same (notarised r q) (notarised s q) (chain r b) (λ x m. notarised-kept q x) (both-right _ _ t)))
+      (subst⁻¹ (λ (c : List ℕ). every p c ≡ true) (chain-same b l) (both-right _ _ t))
+
+  -- a chain that is notarised in a view stays so
+  pub chain-notarised-kept : (q b : ℕ) → b ≤ r .last .0 → chainNotarised r q b ≡ true → chainNotarised s q b ≡ true
+  chain-notarised-kept q b l t = notarised-more s (notarised-kept q) b (notarised-by-kept (notarised r q) b l t)
 
   -- three consecutive blocks stay so
-  pub consecutive-kept : {q b c d : ℕ} → b ≤ r .last .0 → Consecutive r q b c d → Consecutive s q b c d
-  consecutive-kept {q} {b} {c} {d} l t =
+  pub consecutive-kept : {p : ℕ → Bool} {b c d : ℕ} → b ≤ r .last .0 → Consecutive r p b c d → Consecutive s p b c d
+  consecutive-kept {p} {b} {c} {d} l t =
       let lc : c ≤ r .last .0 = omega (arith, parent-le r b, t .parent) in
       let ld : d ≤ r .last .0 = omega (arith, parent-le r c, t .grandparent) in
       record {
@@ -141,5 +144,5 @@ module _ {r s : Book} (g : Grows r s) where
         middle = t .middle;
         two-later = omega (arith, epoch-kept b l, epoch-kept d ld, t .two-later);
         one-later = omega (arith, epoch-kept c lc, epoch-kept d ld, t .one-later);
-        chain = chain-notarised-kept q b l (t .chain);
+        chain = notarised-by-kept p b l (t .chain);
       }

@@ -13,7 +13,7 @@ use Rattle.register.specs.Types.{Office, Epoch, Block, Message, Kind, St
 use Rattle.register.specs.Books.{block}
 use Rattle.register.specs.Tables.{stateOf}
 use Rattle.register.specs.Views.{stage, signed, notarised}
-use Rattle.register.specs.Chains.{chain, chainNotarised, longest}
+use Rattle.register.specs.Chains.{chain, chainNotarisedBy, longest}
 use Rattle.register.specs.Refusals.{finalises}
 use Rattle.register.specs.Effects.{sentStage}
 use Rattle.register.specs.Steps.{ruleOf}
@@ -41,20 +41,20 @@ searchedMessages l = messages [] (l .messages .signers) (l .messages .about) (l 
 
 -- a base by all that is lent is one by what a search reads
 pub base-lent : (l : Lent) (q b : ℕ) → Base (given l nothing) q b → Base (lentBook (l .scalars) [] (searchedBlocks l) (searchedMessages l)) q b
-unfolding chainNotarised notarised signed stage chain
+unfolding chainNotarisedBy notarised signed stage chain
 base-lent l q b known = known
 
 module _ (l : Lent) (rest : Book) (c : Change) where
   pub lent-propose : (office : Office) (parent : Block) (w : ℕ)
       → changeBy c (lentBook (l .scalars) (l .leaders) (l .blocks) (searchedMessages l)) (Step.Propose office parent w)
       ≡ changeBy c (given l rest) (Step.Propose office parent w)
-  unfolding changeBy ruleOf entriesOf longest chainNotarised notarised signed stage chain sentStage
+  unfolding changeBy ruleOf entriesOf longest chainNotarisedBy notarised signed stage chain sentStage
   lent-propose office parent w = refl
 
   pub lent-vote : (office : Office) (message : Message)
       → changeBy c (lentBook (l .scalars) (l .leaders) (searchedBlocks l) (l .messages)) (Step.Vote office message)
       ≡ changeBy c (given l rest) (Step.Vote office message)
-  unfolding changeBy ruleOf entriesOf longest chainNotarised notarised signed stage chain sentStage
+  unfolding changeBy ruleOf entriesOf longest chainNotarisedBy notarised signed stage chain sentStage
   lent-vote office message = refl
 
   pub lent-register : (office : Office) (message : Message)
@@ -68,7 +68,7 @@ module _ (l : Lent) (rest : Book) (c : Change) where
       → (office .0 < 32 → stateOf rest (office .0) ≡ state)
       → changeBy c (heldBook (l .scalars) [] (searchedBlocks l) (searchedMessages l) state) (Step.Finalise office newest)
       ≡ changeBy c (given l rest) (Step.Finalise office newest)
-  unfolding changeBy ruleOf entriesOf first choose finalises chainNotarised notarised signed stage chain
+  unfolding changeBy ruleOf entriesOf first choose finalises chainNotarisedBy notarised signed stage chain
   lent-finalise office newest state few holds =
       elim (decLt (office .0) 32) as
       (λ _.

@@ -33,7 +33,7 @@ module _ (r : Book) (q : ℕ) (fits : fit r ≡ true) where
 
     -- and so no chain but that of genesis
     bare-chain : (x : ℕ) → 0 < x → (n : Bool) → chainNotarised r q x ≡ n → n ≡ false
-    bare-chain x above true h = sym (last-notarised r q x above h) ∙ bare x above
+    bare-chain x above true h = sym (last-notarised r (notarised r q) x above h) ∙ bare x above
     bare-chain x above false h = refl
 
     -- no chain there is longer than another
@@ -55,7 +55,7 @@ module _ (r : Book) (q : ℕ) (fits : fit r ≡ true) where
           | yes above ↦ rw (ne-eqb b 0 (omega arith), bare-chain b above _ refl)
           | no below ↦
               let zero : b ≡ 0 = omega arith in
-              rw (any-fails (longer r q b) (r .last .0 + 1) (λ x l. none-longer b x), zero, genesis-notarised r q)
+              rw (any-fails (longer r q b) (r .last .0 + 1) (λ x l. none-longer b x), zero, genesis-notarised r (notarised r q))
         ]
 
   -- in a trusted office's view the search finds it

@@ -23,7 +23,7 @@ use Rattle.register.specs.Types.{Book}
 use Rattle.register.specs.Limits.{mostOffices}
 use Rattle.register.specs.Tables.{trusted, parentOf, epochOf}
 use Rattle.register.specs.Views.{stage, inView, says, signed, signers, notarised}
-use Rattle.register.specs.Chains.{chain, chainLength, chainNotarised, longer, longest}
+use Rattle.register.specs.Chains.{chain, chainLength, chainNotarisedBy, chainNotarised, longer, longest}
 
 -- a trusted office's view
 abbrev pub viewOf : Book → (q : ℕ) → List ℕ
@@ -68,7 +68,7 @@ module _ (r : Book) (few : r .count ≤ 1024) (offices : r .n ≤ 32) (q : ℕ) 
 
   -- a chain is notarised there where each of its blocks is certified
   chain-notarised-by : (b : ℕ) → b < 256 → chainNotarised r q b ≡ every (certifiedOf r q) (chainBy (parentIn (r .parents) (r .last .0)) b)
-  unfolding chainNotarised chain certifiedIn certifiedBy
+  unfolding chainNotarisedBy chain certifiedIn certifiedBy
   chain-notarised-by b l =
       every-both (λ x. ltb (epochOf r (parentOf r x)) (epochOf r x)) (notarised r q) (chain r b)
       ∙ certified-same (parentIn (r .parents) (r .last .0)) (parent-in-lt (r .parents) (r .last .0)) _ (certifiedOf r q)

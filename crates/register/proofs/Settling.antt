@@ -20,6 +20,7 @@ use Rattle.register.specs.Chains.{chainNotarised}
 use Rattle.register.specs.Effects.{withBlock, withSent, withMoved, withActed, withState, withNextEpoch}
 use Rattle.register.specs.Steps.{refusal, judged, ruleOf}
 use Rattle.register.specs.Settled.{Settled, AllSettled, Base, settledBase, actorOf, Acts}
+use Rattle.register.specs.Views.{notarised}
 use Rattle.register.proofs.Chains.{parent-le, genesis-notarised}
 use Rattle.register.proofs.Finalising.{middle-notarised}
 use Rattle.register.proofs.Naming.{named-keeps}
@@ -66,7 +67,7 @@ settled-new r q c state is low n = by (decLt q (length (r .offices)))
     by (no h) =
         held (record { finalised = block 0 })
         (List·getD-eq-default (set (r .offices) q state) _ (omega (arith, length-set (r .offices) q state))) (omega arith)
-        (genesis-notarised r q)
+        (genesis-notarised r (notarised r q))
 
 -- an accepted step leaves the state of every office but its actor, whose final block it settles
 abbrev States : (r : Book) (step : Step) → Type 0
@@ -124,7 +125,7 @@ base-by : (r : Book) (set q at : ℕ) → AllSettled r set → q < 32 → at ≡
     → Base r q (choose t (stateOf r at .finalised) (block 0) .0)
 unfolding choose
 base-by r set q at all l own true h = subst⁻¹ (λ (x : ℕ). Base r q (finalOf r x)) own (all q l h .notarised)
-base-by r set q at all l own false h = genesis-notarised r q
+base-by r set q at all l own false h = genesis-notarised r (notarised r q)
 
 -- the base of an office, whose final block is settled where the office is in the set
 pub settled-base : (r : Book) (set q at : ℕ) → AllSettled r set → set < 2 ^ 32 → (q < 32 → at ≡ q)
@@ -133,7 +134,7 @@ unfolding choose
 settled-base r set q at all fits own =
     elim (decLt q 32) as (λ _. Base r q (settledBase (stateOf r at) set q .0)) [
       | yes l ↦ base-by r set q at all l (own l) (eqb (digit 2 set q) 1) refl
-      | no l ↦ rw (digit-past 2 set 32 q fits (omega arith)) (genesis-notarised r q)
+      | no l ↦ rw (digit-past 2 set 32 q fits (omega arith)) (genesis-notarised r (notarised r q))
     ]
 
 -- what the code finds of a step's actor

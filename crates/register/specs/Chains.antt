@@ -27,9 +27,13 @@ begins (newest ∷ older) chain = member newest chain
 abbrev pub valid : Book → ℕ → Bool
 valid r b = every (λ x. ltb (epochOf r (parentOf r x)) (epochOf r x)) (chain r b)
 
--- the chain of block b is notarised in office q's view: it is valid and all its blocks are notarised there
-unfoldable pub chainNotarised : Book → ℕ → ℕ → Bool
-chainNotarised r q b = both (valid r b) (every (notarised r q) (chain r b))
+-- the chain of block b is notarised by a test of blocks: it is valid and all its blocks pass
+unfoldable pub chainNotarisedBy : Book → (ℕ → Bool) → ℕ → Bool
+chainNotarisedBy r passes b = both (valid r b) (every passes (chain r b))
+
+-- it is notarised in office q's view: it is valid and all its blocks are notarised there
+abbrev pub chainNotarised : Book → ℕ → ℕ → Bool
+chainNotarised r q b = chainNotarisedBy r (notarised r q) b
 
 -- block x's chain is notarised in office q's view and longer than block b's
 abbrev pub longer : Book → ℕ → ℕ → ℕ → Bool

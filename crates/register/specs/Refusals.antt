@@ -9,8 +9,8 @@ use Rattle.tables.specs.Messages.{historyIn}
 use Rattle.register.specs.Types.{Kind, Header, Book}
 use Rattle.register.specs.Limits.{mostBlocks, mostMessages, widestEpoch}
 use Rattle.register.specs.Tables.{trusted, leaderOf, finalOf, parentOf, epochOf, named, signerOf, aboutOf, isVote}
-use Rattle.register.specs.Views.{inTransit, inInbox, signed}
-use Rattle.register.specs.Chains.{chainLength, chainNotarised, longest}
+use Rattle.register.specs.Views.{inTransit, inInbox, signed, notarised}
+use Rattle.register.specs.Chains.{chainLength, chainNotarisedBy, longest}
 
 -- 6: the number is not below n
 abbrev pub noOffice : Book → ℕ → Bool
@@ -65,10 +65,14 @@ unfoldable pub consecutive : (epoch : ℕ → ℕ) → (b c d : ℕ) → Bool
 consecutive epoch b c d =
     conj (not (eqb b 0) ∷ not (eqb c 0) ∷ eqb (epoch b) (epoch d + 2) ∷ eqb (epoch c) (epoch d + 1) ∷ [])
 
--- block b, its parent c and c's parent d are consecutive, and b's chain is notarised in the office's view
+-- the finalise rule: block b, its parent c and c's parent d are consecutive, and b's chain is notarised by a test of blocks
+abbrev pub finalisesBy : Book → (ℕ → Bool) → ℕ → Bool
+finalisesBy r passes b =
+    both (consecutive (epochOf r) b (parentOf r b) (parentOf r (parentOf r b))) (chainNotarisedBy r passes b)
+
+-- it holds in the office's view
 unfoldable pub finalises : Book → ℕ → ℕ → Bool
-finalises r q b =
-    both (consecutive (epochOf r) b (parentOf r b) (parentOf r (parentOf r b))) (chainNotarised r q b)
+finalises r q b = finalisesBy r (notarised r q) b
 
 -- 21: the condition for finalising is unmet
 abbrev pub notFinal : Book → ℕ → ℕ → Bool

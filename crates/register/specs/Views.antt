@@ -38,6 +38,10 @@ says r signer b m = saysIn (r .signers) (r .about) signer b m
 unfoldable pub signed : Book → (q : ℕ) → (signer : ℕ) → (b : ℕ) → Bool
 signed r q signer b = any (r .count) (λ m. both (inView r q m) (says r signer b m))
 
+-- a signature on block b is in the history: a message that was sent, of either kind, has that signer and that block
+unfoldable pub everSigned : Book → (signer : ℕ) → (b : ℕ) → Bool
+everSigned r signer b = any (r .count) (says r signer b)
+
 -- the signer is an office, and its signature on block b is in office q's view
 abbrev pub signs : Book → (q b : ℕ) → (signer : ℕ) → Bool
 signs r q b signer = both (ltb signer (r .n)) (signed r q signer b)

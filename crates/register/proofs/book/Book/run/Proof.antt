@@ -9,7 +9,7 @@ use Rattle.register.specs.Limits.{batch}
 use Rattle.register.specs.Books.{office, block, registerOf}
 use Rattle.register.specs.Tables.{stateOf}
 use Rattle.register.specs.Views.{stage, signed, notarised}
-use Rattle.register.specs.Chains.{chain, chainNotarised}
+use Rattle.register.specs.Chains.{chain, chainNotarisedBy}
 use Rattle.register.specs.Fitness.{fit}
 use Rattle.register.specs.Settled.{Acts}
 use Rattle.register.proofs.Writing.{written}
@@ -67,7 +67,7 @@ abbrev read : tie.After-judge-arg8 Inv-loop μ-loop → tie.After-scalars Inv-lo
 read c = c .before .before .before .before .before .before .before .before .before
 
 judge-requires : tie.Need-judge-requires Inv-loop μ-loop
-unfolding chainNotarised notarised signed stage chain
+unfolding chainNotarisedBy notarised signed stage chain
 judge-requires c κs =
     let at = read c .before in
     rw (read c .scalars .ensures) (held-counts (turn at .before .loop .inv .1), record { within = acting at .within; own = acting at .own; base = acting at .base })

@@ -1,12 +1,14 @@
 -- `is_final` makes the tests of the three blocks, and then asks for the chain.
 use borrow.Author.Needs.{needs}
 use Prim.Native.Nat.{_<_}
+use Rattle.register.specs.Refusals.{finalises}
 use Rattle.register.proofs.Finalising.{not-final, is-final}
 use Rattle.register.proofs.Answering.{found-notarised}
 use Rattle.register.proofs.steps.finalise.is_final.Statement.{statement}
 use Rattle.register.proofs.steps.finalise.is_final.Tie as tie
 
 returns : tie.Need-returns
+unfolding finalises
 returns c =
     not-final _ _ _ _ _ _ (c .before .before .before .parent-at .ensures) (c .before .before .parent-at2 .ensures)
     (c .before .are-consecutive .ensures) (c .if1 .taken)
@@ -20,6 +22,7 @@ small : (s : tie.Start) → (s .args .base .0 < 256) × (s .args .newest .0 < 25
 small s = (search needs, search needs)
 
 returns-2 : tie.Need-returns-2
+unfolding finalises
 returns-2 c =
     is-final _ _ _ _ _ _ (c .before .before .before .before .before .parent-at .ensures)
     (c .before .before .before .before .parent-at2 .ensures)
