@@ -88,7 +88,7 @@ batches-are-moments run i k =
     ∙ ap (afterSteps (opened run)) (sym (take-add i k (run .steps)))
 
 -- what steps make of a book they make of it from every moment to every later one
-onward : (run : Run) (i j : ℕ) → i ≤ j → Onward (bookOf (moment run i)) (bookOf (moment run j))
+pub onward : (run : Run) (i j : ℕ) → i ≤ j → Onward (bookOf (moment run i)) (bookOf (moment run j))
 unfolding BatchesAreMoments ran
 onward run i j before =
     let k : ℕ = j - i in

@@ -215,7 +215,7 @@ lawful-finalise r office newest z a grows =
           finals-after r (office .0) (parentOf r (newest .0)) p _ refl
           (middle (newest .0) _ (a .block)
           (three-kept (grows-state r (office .0) _) (a .block)
-          (consecutive-more (notarised-backed r (z .counts .offices) (office .0)) (a .three)))) (a .forward);
+          (consecutive-more (λ x m. notarised-backed r (z .counts .offices) (office .0) x) (a .three)))) (a .forward);
     }
 
 -- a message of the history is a signature

@@ -80,10 +80,10 @@ every-parent r p b h e =
     both-right (p b) (every p (chain r (parentOf r b))) (subst (λ (c : List ℕ). every p c ≡ true) (chain-step r b h) e)
 
 -- a chain that is notarised by a test is so by every test that its blocks then pass too
-pub notarised-more : (r : Book) {p p' : ℕ → Bool} → ((x : ℕ) → p x ≡ true → p' x ≡ true) → (b : ℕ)
+pub notarised-more : (r : Book) {p p' : ℕ → Bool} (b : ℕ) → ((x : ℕ) → member x (chain r b) ≡ true → p x ≡ true → p' x ≡ true)
     → chainNotarisedBy r p b ≡ true → chainNotarisedBy r p' b ≡ true
 unfolding chainNotarisedBy
-notarised-more r {p} {p'} pass b n = both-make _ _ (both-left _ _ n) (every-same p p' (chain r b) (λ x m. pass x) (both-right _ _ n))
+notarised-more r {p} {p'} b pass n = both-make _ _ (both-left _ _ n) (every-same p p' (chain r b) pass (both-right _ _ n))
 
 -- the parent's chain of a notarised chain is notarised
 pub notarised-parent : (r : Book) (p : ℕ → Bool) (b : ℕ) → 0 < b → chainNotarisedBy r p b ≡ true → chainNotarisedBy r p (parentOf r b) ≡ true

@@ -5,12 +5,12 @@ use mathlib.Core.Bool.{Bool, true, false, not}
 use native.Mathlib.Omega.{arith}
 use borrow.Author.Tests.{eqb-true, eqb-false, not-true, not-false}
 use lib.Dec.{eqb}
-use Rattle.words.specs.Tests.{both}
+use Rattle.words.specs.Tests.{both, member}
 use Rattle.words.proofs.Tests.{both-left, both-right}
 use Rattle.words.proofs.Clearing.{holds}
 use Rattle.register.specs.Types.{Book}
 use Rattle.register.specs.Tables.{parentOf, epochOf}
-use Rattle.register.specs.Chains.{chainNotarisedBy}
+use Rattle.register.specs.Chains.{chain, chainNotarisedBy}
 use Rattle.register.specs.Refusals.{consecutive, finalisesBy}
 use Rattle.register.proofs.Chains.{notarised-more, notarised-parent}
 
@@ -36,8 +36,8 @@ module _ {r : Book} {p : ℕ → Bool} {b c d : ℕ} (three : Consecutive r p b 
       subst (λ (x : ℕ). chainNotarisedBy r p x ≡ true) (three .grandparent) (notarised-parent r p c (three .middle) middle-notarised)
 
 -- three consecutive blocks by a test are so by every test that the blocks then pass too
-pub consecutive-more : {r : Book} {p p' : ℕ → Bool} {b c d : ℕ} → ((x : ℕ) → p x ≡ true → p' x ≡ true) → Consecutive r p b c d
-    → Consecutive r p' b c d
+pub consecutive-more : {r : Book} {p p' : ℕ → Bool} {b c d : ℕ} → ((x : ℕ) → member x (chain r b) ≡ true → p x ≡ true → p' x ≡ true)
+    → Consecutive r p b c d → Consecutive r p' b c d
 consecutive-more {r} {p} {p'} {b} pass three =
     record {
       parent = three .parent;
@@ -46,7 +46,7 @@ consecutive-more {r} {p} {p'} {b} pass three =
       middle = three .middle;
       two-later = three .two-later;
       one-later = three .one-later;
-      chain = notarised-more r pass b (three .chain);
+      chain = notarised-more r b pass (three .chain);
     }
 
 -- a number that is not 0 is above 0

@@ -17,7 +17,7 @@ use Rattle.tables.specs.Messages.{saysIn}
 use Rattle.register.specs.Types.{Header, Content, Book}
 use Rattle.register.specs.Limits.{mostOffices}
 use Rattle.register.specs.Tables.{trusted, made, headerOf, parentOf, epochOf, contentOf}
-use Rattle.register.specs.Views.{inView, says, signed, signs, signers, notarised}
+use Rattle.register.specs.Views.{inView, says, signed, everSigned, signs, signers, notarised}
 use Rattle.register.specs.Chains.{chain, chainLength, chainNotarisedBy, chainNotarised}
 use Rattle.register.proofs.Chains.{parent-le, on-chain-le, chain-kept, notarised-more}
 use Rattle.quorum.proofs.Enough.{enough-make, enough-least}
@@ -57,6 +57,13 @@ grows-trans g h =
       views = λ q m v. h .views q m (g .views q m v);
     }
 
+-- a signature in a view is one of the history
+pub ever-signed : (r : Book) (q h b : ℕ) → signed r q h b ≡ true → everSigned r h b ≡ true
+unfolding signed everSigned
+ever-signed r q h b t =
+    let f : (m : ℕ) × (m < r .count) × (both (inView r q m) (says r h b m) ≡ true) = any-at _ (r .count) t in
+    any-make _ (r .count) (f .0) (f .1) (both-right _ _ (f .2))
+
 module _ {r s : Book} (g : Grows r s) where
   -- the same offices are trusted
   pub trusted-kept : (q : ℕ) → trusted s q ≡ trusted r q
@@ -86,7 +93,7 @@ module _ {r s : Book} (g : Grows r s) where
   length-kept b l = ap length (chain-same b l)
 
   -- a message keeps what it says
-  pub says-kept : (q b m : ℕ) → m < r .count → says s q b m ≡ says r q b m
+  says-kept : (q b m : ℕ) → m < r .count → says s q b m ≡ says r q b m
   unfolding saysIn
   says-kept q b m l = ap (λ (x : Content). both (eqb (x .signer .0) q) (eqb (x .about .0) b)) (g .messages m l)
 
@@ -97,6 +104,13 @@ module _ {r s : Book} (g : Grows r s) where
       let f : (m : ℕ) × (m < r .count) × (both (inView r q m) (says r h b m) ≡ true) = any-at _ (r .count) t in
       any-make _ (s .count) (f .0) (omega (arith, f .1, g .count))
       (both-make _ _ (g .views q (f .0) (both-left _ _ (f .2))) (says-kept h b (f .0) (f .1) ∙ both-right _ _ (f .2)))
+
+  -- a signature that is in the history stays there
+  pub ever-kept : (h b : ℕ) → everSigned r h b ≡ true → everSigned s h b ≡ true
+  unfolding everSigned
+  ever-kept h b t =
+      let f : (m : ℕ) × (m < r .count) × (says r h b m ≡ true) = any-at _ (r .count) t in
+      any-make _ (s .count) (f .0) (omega (arith, f .1, g .count)) (says-kept h b (f .0) (f .1) ∙ f .2)
 
   -- and an office that has signed a block there has
   signs-kept : (q b h : ℕ) → signs r q b h ≡ true → signs s q b h ≡ true
@@ -130,7 +144,7 @@ module _ {r s : Book} (g : Grows r s) where
 
   -- a chain that is notarised in a view stays so
   pub chain-notarised-kept : (q b : ℕ) → b ≤ r .last .0 → chainNotarised r q b ≡ true → chainNotarised s q b ≡ true
-  chain-notarised-kept q b l t = notarised-more s (notarised-kept q) b (notarised-by-kept (notarised r q) b l t)
+  chain-notarised-kept q b l t = notarised-more s b (λ x m. notarised-kept q x) (notarised-by-kept (notarised r q) b l t)
 
   -- three consecutive blocks stay so
   pub consecutive-kept : {p : ℕ → Bool} {b c d : ℕ} → b ≤ r .last .0 → Consecutive r p b c d → Consecutive s p b c d

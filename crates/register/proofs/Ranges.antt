@@ -1,12 +1,11 @@
 -- What the test of a register says of the numbers in it.
 use Prim.Native.Nat.{ℕ, _+_, _≤_, _<_}
-use mathlib.Core.Path.{_≡_, refl}
-use mathlib.Core.Bool.{Bool, true, false, not}
+use mathlib.Core.Path.{_≡_}
+use mathlib.Core.Bool.{true}
 use native.Mathlib.Omega.{arith}
 use borrow.Author.Tests.{ltb-true, leb-true, lt-ltb, le-leb}
 use lib.ListN.{getD}
-use Rattle.words.specs.Tests.{either}
-use Rattle.words.proofs.Tests.{clash, both-left, both-right, both-make, all-at, all-make, between-true, between-make}
+use Rattle.words.proofs.Tests.{both-left, both-right, both-make, implied, implies, all-at, all-make, between-true, between-make}
 use Rattle.words.proofs.Clearing.{holds, hold}
 use Rattle.register.specs.Types.{Book, Scalars}
 use Rattle.register.specs.Books.{scalarsOf}
@@ -32,18 +31,6 @@ pub record Ranges (r : Book) : Type 0 where
   pub messages : (m : ℕ) → m < r .count → MessageRange r m
   pub finals : (q : ℕ) → q < r .n → trusted r q ≡ true → finalOf r q ≤ r .last .0
   pub sizes : Sizes r
-
--- where a test fails or another holds, the second holds as soon as the first does
-implied : (t u : Bool) → either (not t) u ≡ true → t ≡ true → u ≡ true
-unfolding either
-implied true u h k = h
-implied false u h k = clash k refl
-
--- and the other way round
-implies : (t u : Bool) → (t ≡ true → u ≡ true) → either (not t) u ≡ true
-unfolding either
-implies true u h = h refl
-implies false u h = refl
 
 -- the single numbers are in their ranges where the tests of them hold
 pub counted : (s : Scalars) → countsFit s ≡ true → Counted s

@@ -207,7 +207,7 @@ fn about_of(numbers: About) -> [Block; MESSAGES]
 
 impl Register {
     // The register's book, whose columns have their sizes.
-    pub(crate) fn book(self) -> Book
+    pub fn book(self) -> Book
         ensures { λ r. ⌜ (r ≡ bookOf self) × Sizes r ⌝ }
     {
         let epoch = self.epoch;

@@ -136,7 +136,7 @@ impl Book {
 
     // Every number of the book is in its range; payloads, places and kinds of messages are no matter. The counts come first, so that no table is
     // read past its end.
-    pub(crate) fn is_fit(self) -> bool
+    pub fn is_fit(self) -> bool
         ensures { λ r. ⌜ r ≡ fit self ⌝ }
     {
         if !counts_fit(self.scalars()) {

@@ -15,6 +15,7 @@ pub mod step;
 mod steps;
 pub mod table;
 
+pub use book::Book;
 pub use sorts::Block;
 pub use sorts::Epoch;
 pub use sorts::Kind;
@@ -22,6 +23,7 @@ pub use sorts::Message;
 pub use sorts::Office;
 pub use sorts::Stage;
 pub use step::Step;
+pub use steps::are_consecutive;
 pub use table::Content;
 pub use table::Header;
 pub use table::Notarised;

@@ -1,7 +1,7 @@
 -- Laws of words with one digit per office, over any base.
 use Prim.Native.Nat.{ℕ, zero, suc, _+_, _-_, _*_, _/_, _%_, _^_, _≤_, _<_, min}
 use mathlib.Core.Path.{_≡_, refl, sym, ap, _∙_}
-use mathlib.Core.Bool.{Bool, true, false}
+use mathlib.Core.Bool.{Bool, true, false, not}
 use mathlib.Core.Logic.{⊎-elim}
 use native.Mathlib.Nat.{add-comm, add-mul, add-zero, eq-of-mul-eq-mul-right, eq-or-lt-of-le, lt-of-le-of-lt, lt-of-lt-of-le, mul-assoc, mul-lt-mul-of-pos-left, mul-one, mul-zero, one-le-pow, one-mul, pow-le-pow-right, pow-suc, pow-succ', pow-zero, zero-add, zero-mul}
 use native.Mathlib.Nat.{add-mul-div-right, add-mul-mod-self-right, div-eq-of-lt, mod-eq-of-lt, mod-le, mod-lt, mod-one, mul-mod-right, zero-div, zero-mod}
@@ -14,10 +14,10 @@ use lib.Bits.{bitAnd, bitOr, and-high, or-lt, or-mod, or-shr, or-zero-l}
 use lib.Count.{ones, onesIn, ones-cat}
 use lib.Dec.{eqb, ltb}
 use lib.Pow.{pow-add}
-use Rattle.words.specs.Digits.{digit, fill, inSet, setOf, withMember, withStage}
+use Rattle.words.specs.Digits.{digit, fill, inSet, setOf, withMember, within, withStage}
 use Rattle.words.specs.Sums.{tally, weigh, unit}
 use Rattle.words.specs.Tests.{choose, both, either}
-use Rattle.words.proofs.Tests.{both-ways}
+use Rattle.words.proofs.Tests.{all-at, all-make, both-ways}
 
 -- a digit is below the base
 pub digit-lt : (b w q : ℕ) → 0 < b → digit b w q < b
@@ -336,6 +336,29 @@ set-below n p =
       | yes l ↦ rw (digit-fill 2 n (digit 2 (setOf p)) bit s l, lt-ltb s n l) (in-set p s h)
       | no past ↦ rw (digit-past 2 low n s (fill-lt 2 n (digit 2 (setOf p)) bit) (omega arith), le-ltb s n (omega arith))
     ])
+
+-- two words of n bits with the same members are one word
+same-word : (n w v : ℕ) → w < 2 ^ n → v < 2 ^ n → ((q : ℕ) → q < n → inSet w q ≡ inSet v q) → w ≡ v
+same-word n w v fw fv same = set-of-bits n w (inSet v) fw same ∙ sym (set-of-bits n v (inSet v) fv (λ q h. refl))
+
+-- a set that adds nobody to another is within it
+pub within-or : (w v : ℕ) → w < 2 ^ 32 → v < 2 ^ 32 → eqb (bitOr w v) v ≡ within w v
+unfolding within either
+within-or w v fw fv =
+    both-ways _ _
+    (λ h. all-make _ 32 (λ q l. told (inSet w q) (inSet v q) (sym (bit-or w v q) ∙ ap (λ (x : ℕ). inSet x q) (eqb-true _ _ h))))
+    (λ h.
+    eq-eqb _ _
+    (same-word 32 (bitOr w v) v (or-lt 32 w v fw fv) fv (λ q l. bit-or w v q ∙ joined (inSet w q) (inSet v q) (all-at _ 32 q h l))))
+  where
+    -- one test joined with another is that one: so where the first holds the other does
+    told : (a b : Bool) → either a b ≡ b → either (not a) b ≡ true
+    told true b e = sym e
+    told false b e = refl
+
+    joined : (a b : Bool) → either (not a) b ≡ true → either a b ≡ b
+    joined true b e = sym e
+    joined false b e = refl
 
 -- the digit 3 of base 4 at a place within a word
 last-within : (q n : ℕ) → q < n → 3 * 2 ^ (2 * q) % 4 ^ n ≡ 3 * 4 ^ q

@@ -1,7 +1,7 @@
 -- What follows from a test that holds, and what makes it hold.
 use Prim.Native.Nat.{ℕ, zero, suc, _<_, _≤_, _+_}
 use mathlib.Core.Path.{_≡_, refl, sym, ap, subst}
-use mathlib.Core.Bool.{Bool, true, false, _&&_, _||_, Bool·beq}
+use mathlib.Core.Bool.{Bool, true, false, not, _&&_, _||_, Bool·beq}
 use mathlib.Core.List.{List, [], _∷_}
 use mathlib.Core.Logic.{_⊎_, inl, inr, ⊎-elim}
 use native.Mathlib.Omega.{arith}
@@ -73,6 +73,18 @@ pub either-false-right : (a b : Bool) → either a b ≡ false → b ≡ false
 unfolding either
 either-false-right true b h = clash refl h
 either-false-right false b h = h
+
+-- where a test fails or another holds, the second holds as soon as the first does
+pub implied : (t u : Bool) → either (not t) u ≡ true → t ≡ true → u ≡ true
+unfolding either
+implied true u h k = h
+implied false u h k = clash k refl
+
+-- and the other way round
+pub implies : (t u : Bool) → (t ≡ true → u ≡ true) → either (not t) u ≡ true
+unfolding either
+implies true u h = h refl
+implies false u h = refl
 
 module _ (p : ℕ → Bool) where
   -- what holds of all numbers below n holds of each

@@ -1,8 +1,8 @@
 -- Words with one digit per office: base 2 for a set of offices, base 4 for the stages of a message.
 use Prim.Native.Nat.{ℕ, zero, suc, _+_, _*_, _/_, _%_, _^_}
-use mathlib.Core.Bool.{Bool}
+use mathlib.Core.Bool.{Bool, not}
 use lib.Dec.{eqb}
-use Rattle.words.specs.Tests.{choose, either}
+use Rattle.words.specs.Tests.{choose, either, all}
 use Rattle.words.specs.Sums.{tally}
 
 -- digit q of a word, counted from the least significant, which is digit 0
@@ -25,6 +25,10 @@ setOf p = fill 2 32 (λ q. choose (p q) 1 0)
 -- the set with office q in it
 unfoldable pub withMember : (set : ℕ) → (q : ℕ) → ℕ
 withMember set q = setOf (λ k. either (inSet set k) (eqb q k))
+
+-- every office of a set is in another one
+unfoldable pub within : (set other : ℕ) → Bool
+within set other = all 32 (λ q. either (not (inSet set q)) (inSet other q))
 
 -- how many of a set's 32 bits are 1
 abbrev pub setBits : (set : ℕ) → ℕ

@@ -4,7 +4,7 @@ ghost use mathlib.Core.Path.{_≡_};
 ghost use Prim.Native.Nat.{_%_, _^_, min};
 ghost use lib.Dec.{eqb};
 ghost use Rattle.words.specs.Tests.{between};
-ghost use Rattle.words.specs.Digits.{digit, fill, inSet, withMember, withStage};
+ghost use Rattle.words.specs.Digits.{digit, fill, inSet, withMember, within, withStage};
 ghost use Rattle.words.specs.Sums.{tally};
 
 // The digit of office q in a set: 1 where it is in, else 0.
@@ -70,6 +70,13 @@ pub fn with_member(set: u32, q: u8) -> u32
     ensures { λ r. ⌜ r ≡ withMember set q ⌝ }
 {
     set | only_bit(q)
+}
+
+// Every office of the set is in the other set.
+pub fn is_within(set: u32, other: u32) -> bool
+    ensures { λ r. ⌜ r ≡ within set other ⌝ }
+{
+    set | other == other
 }
 
 // The word with that stage for office q; where a word has no such digit, the word as it is.

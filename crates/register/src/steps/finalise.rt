@@ -24,7 +24,7 @@ use crate::sorts::Office;
 use crate::table::OfficeState;
 
 // The blocks b, c and d are consecutive. Only the oldest, d, may be genesis, whose epoch is 0.
-fn are_consecutive<'a>(epochs: &'a Epochs, last: Block, b: Block, c: Block, d: Block) -> bool
+pub fn are_consecutive<'a>(epochs: &'a Epochs, last: Block, b: Block, c: Block, d: Block) -> bool
     ensures { λ r. ⌜ r ≡ consecutive (epochIn (lent epochs) (last .0)) (b .0) (c .0) (d .0) ⌝ }
 {
     let newest = tables::epoch_at(epochs, last.0, b.0) as u32;

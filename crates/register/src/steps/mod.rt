@@ -10,3 +10,5 @@ mod places;
 mod propose;
 mod register;
 mod vote;
+
+pub use finalise::are_consecutive;
