@@ -8,7 +8,7 @@ use native.Mathlib.Omega.{arith}
 use lib.Dec.{eqb}
 use lib.ListN.{length, take, drop, set, replicate, length-append, length-drop, length-set, take-append-drop}
 use lib.Pow.{pow-add, pow-pos, mod-pow-add, high, low, shr-shr}
-use lib.Seq.{sets, sets-eq, set-append-left, drop-append-le, take-append-le}
+use lib.Seq.{sets, sets-eq, set-append-left, set-comm, drop-append-le, take-append-le}
 use Rattle.words.specs.Tests.{choose}
 use Rattle.packed_log.specs.{Bits.toBits, Bits.num, Windows.over}
 
@@ -65,7 +65,7 @@ num-append (b ∷ s) t =
     e
 
 -- the number of the w bits of v is v within w bits
-num-toBits-mod : (w v : ℕ) → num (toBits w v) ≡ v % 2 ^ w
+pub num-toBits-mod : (w v : ℕ) → num (toBits w v) ≡ v % 2 ^ w
 unfolding num toBits
 num-toBits-mod zero v = rw mod-one
 num-toBits-mod (suc w) v =
@@ -162,3 +162,16 @@ num-sets r p t h =
     ap num laid
     ∙ num-append (take p r) (t ++ z)
     ∙ rw (num-append t z, both, long, front, num-split r (p + w) .1) (sym (add-assoc _ _ _))
+
+-- an element in front of a row that is laid is set before it as well as after it
+set-sets : {A : Type 0} (r : List A) (p k : ℕ) (a : A) (u : List A) → p < k → set (sets r k u) p a ≡ sets (set r p a) k u
+set-sets r p k a [] h = refl
+set-sets {A} r p k a (b ∷ u) h =
+    set-sets (set r k b) p (suc k) a u (omega arith)
+    ∙ ap (λ (l : List A). sets l (suc k) u) (set-comm r k p b a (λ e. omega arith))
+
+-- laying a row right in front of one that was laid before is laying the joined row
+pub sets-before : {A : Type 0} (r : List A) (p : ℕ) (t u : List A) → sets (sets r (p + length t) u) p t ≡ sets r p (t ++ u)
+sets-before r p [] u = rw add-zero
+sets-before r p (a ∷ t) u =
+    rw (set-sets r p (p + suc (length t)) a u (omega arith), add-suc, ← suc-add) (sets-before (set r p a) (suc p) t u)

@@ -7,9 +7,9 @@ use native.Mathlib.Nat.{div-add-mod, mul-div-cancel-left, mul-suc, add-comm, lt-
 use native.Mathlib.Omega.{arith}
 use lib.ListN.{length, take, drop, length-append, length-take, length-drop, take-append-drop, drop-of-length-le}
 use lib.Pow.{pow-mono}
-use lib.Seq.{sets, length-sets, take-all, take-at, drop-at, drop-append-add, drop-drop, drop-nil}
+use lib.Seq.{sets, length-sets, take-all, take-at, take-append-add, take-nil, drop-at, drop-append-add, drop-drop, drop-nil}
 use Rattle.packed_log.specs.Bits.{Bytes, toBits, num, bits, pack, bytes, field, put}
-use Rattle.packed_log.proofs.BitRows.{length-toBits, num-lt, num-toBits, toBits-num, part-append, sets-sets, sets-left, sets-right}
+use Rattle.packed_log.proofs.BitRows.{length-toBits, num-lt, num-toBits, toBits-num, part-append, sets-sets, sets-before, sets-left, sets-right}
 
 -- eight bits to a byte
 pub length-bits : (l : List ℕ) → length (bits l) ≡ 8 * length l
@@ -90,7 +90,7 @@ bytes-put : (l : List ℕ) (p : ℕ) (t : List Bool) → Bytes (put l p t)
 bytes-put l p t = rw put-pack (bytes-pack (length l) (sets (bits l) p t))
 
 -- the row of a buffer after t was laid over it
-bits-put : (l : List ℕ) (p : ℕ) (t : List Bool) → bits (put l p t) ≡ sets (bits l) p t
+pub bits-put : (l : List ℕ) (p : ℕ) (t : List Bool) → bits (put l p t) ≡ sets (bits l) p t
 unfolding put
 bits-put l p t = bits-bytes (length l) (sets (bits l) p t) (length-sets (bits l) p t ∙ length-bits l)
 
@@ -159,3 +159,18 @@ put-part l p t h within =
     let rest : length (drop f l) ≤ length l - f = simp length-drop (omega arith) in
     rw (take-all (length l - f) (drop f l) rest, drop-of-length-le (drop f l) rest, append-nil)
     (sym (put-right (take f l) (drop f l) (p % 8) t (bytes-take f l h)) ∙ rw (front, take-append-drop f l, div-add-mod p 8))
+
+-- laying a row right in front of one that was laid before is laying both, joined
+pub put-before : (l : List ℕ) (p : ℕ) (t u : List Bool) → put (put l (p + length t) u) p t ≡ put l p (t ++ u)
+put-before l p t u =
+    put-pack (put l (p + length t) u) p t
+    ∙ rw (length-put l (p + length t) u, bits-put l (p + length t) u, sets-before (bits l) p t u) (sym (put-pack l p (t ++ u)))
+
+-- the row of the first bytes of a log
+pub take-bits : (f : ℕ) (l : List ℕ) → bits (take f l) ≡ take (8 * f) (bits l)
+unfolding bits
+take-bits zero l = refl
+take-bits (suc f) [] = rw take-nil
+take-bits (suc f) (b ∷ l) =
+    let e : 8 * suc f ≡ length (toBits 8 b) + 8 * f = rw length-toBits (omega arith) in
+    rw (e, take-append-add (toBits 8 b) (bits l) (8 * f), take-bits f l)

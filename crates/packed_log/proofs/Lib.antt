@@ -3,6 +3,7 @@ pub mod Judging
 pub mod BitRows
 pub mod BitsLaws
 pub mod Windows
+pub mod FieldLaws
 pub mod RowLaws
 pub mod OpeningLaws
 pub mod WritingLaws

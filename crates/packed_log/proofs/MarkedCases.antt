@@ -15,7 +15,7 @@ use Rattle.register.specs.declared.step.Step.the-variants.{Propose, Advance}
 use Rattle.register.specs.Books.{office, block}
 use Rattle.packed_log.specs.Bits.{toBits, num, pack, bytes}
 use Rattle.packed_log.specs.{Rows.rowOf, Widths.fields, Widths.width}
-use Rattle.packed_log.specs.Writing.{trustBits, leaderBits, openingBits, endBits, wide}
+use Rattle.packed_log.specs.Writing.{officeBits, leaderBits, openingBits, endBits, wide}
 use Rattle.packed_log.specs.Logs.{Case, stepsBits, bodyBits, packed, anyWide, Packable}
 use Rattle.packed_log.specs.MarkedCases.{Says, AllHold, marked}
 use Rattle.packed_log.proofs.{BitsLaws.length-bits, RowLaws._&_, LogsReadBack.packed-row}
@@ -43,7 +43,7 @@ alone = record { n = 3; trust = 7; schedule = 0 ∷ 0 ∷ 0 ∷ []; steps = [] }
 
 -- its bits as one number, and as bytes
 alone-bits : bodyBits alone ≡ toBits 33 520192000
-unfolding bodyBits openingBits toBits trustBits digit leaderBits stepsBits
+unfolding bodyBits openingBits toBits officeBits digit leaderBits stepsBits
 alone-bits = refl
 
 alone-bytes : packed alone ≡ 15 ∷ 128 ∷ 192 ∷ 0 ∷ 0 ∷ []

@@ -20,22 +20,22 @@ use Rattle.register.proofs.Typing.{book-register}
 use Rattle.packed_log.specs.Bits.{toBits, bits, field}
 use Rattle.packed_log.specs.Items.{left}
 use Rattle.packed_log.specs.Openings.{countIn, trustIn, lengthIn, leadersAt, thereIn, openingTestsIn, openingRefusalIn, opened, openedBy, openingIn}
-use Rattle.packed_log.specs.Writing.{trustBits, leaderBits, openingBits}
+use Rattle.packed_log.specs.Writing.{officeBits, leaderBits, openingBits}
 use Rattle.packed_log.proofs.{BitRows.bit-row, BitsLaws.field-lt}
 use Rattle.packed_log.proofs.WritingLaws.{length-trust, length-leaders, length-opening}
 use Rattle.packed_log.proofs.OpeningLaws.{Accepted, accepted, length-leadersAt}
 use Rattle.packed_log.proofs.Standing.{Stands, left-stands, stands-behind, value-read, stands-field}
 
 -- trust bits that stand at a position are read there
-trust-reads : (log : List ℕ) (p n trust : ℕ) (u : List Bool) → Stands log p (trustBits n trust ++ u)
+trust-reads : (log : List ℕ) (p n trust : ℕ) (u : List Bool) → Stands log p (officeBits n trust ++ u)
     → fill 2 n (λ q. field log (p + q) 1) ≡ fill 2 n (digit 2 trust)
-unfolding fill trustBits
+unfolding fill officeBits
 trust-reads log p zero trust u h = refl
 trust-reads log p (suc n) trust u h =
     let d : ℕ = digit 2 trust n in
     let small : d < 2 = digit-lt 2 trust n (omega arith) in
-    let stands : Stands log p (trustBits n trust ++ (toBits 1 d ++ u)) = rw bit-row (rw append-assoc at h) in
-    let behind : Stands log (p + n) (toBits 1 d ++ u) = rw length-trust at (stands-behind log p (trustBits n trust) _ stands) in
+    let stands : Stands log p (officeBits n trust ++ (toBits 1 d ++ u)) = rw bit-row (rw append-assoc at h) in
+    let behind : Stands log (p + n) (toBits 1 d ++ u) = rw length-trust at (stands-behind log p (officeBits n trust) _ stands) in
     rw (trust-reads log p n trust _ stands, value-read log (p + n) 1 d u small behind .value)
 
 -- where words are filled alike, the bits that fill the one are the digits that fill the other
@@ -48,8 +48,8 @@ word-digit log p n trust h q l =
 
 -- trust bits that are read stand there
 trust-stands : (log : List ℕ) (p n trust : ℕ) → p + n ≤ 8 * length log → ((q : ℕ) → q < n → field log (p + q) 1 ≡ digit 2 trust q)
-    → Stands log p (trustBits n trust ++ drop (p + n) (bits log))
-unfolding trustBits
+    → Stands log p (officeBits n trust ++ drop (p + n) (bits log))
+unfolding officeBits
 trust-stands log p zero trust room same = rw add-zero
 trust-stands log p (suc n) trust room same =
     let d : ℕ = digit 2 trust n in
@@ -131,7 +131,7 @@ module _ (log : List ℕ) (n trust : ℕ) (schedule : List ℕ) where
       let offices : (1 ≤ n) × (n ≤ 32) = tests .count in
       let epochs : (1 ≤ k) × (k ≤ 256) = tests .turns in
       let count = value-read log 0 6 n _ (omega arith) (simp append-assoc at h) in
-      let at-length = rw length-trust at (stands-behind log 6 (trustBits n trust) _ (count .behind)) in
+      let at-length = rw length-trust at (stands-behind log 6 (officeBits n trust) _ (count .behind)) in
       let turns = value-read log (6 + n) 9 k _ (omega arith) at-length in
       let behind : 6 + n + 9 ≡ 15 + n = omega arith in
       let at-leaders : Stands log (15 + n) (leaderBits schedule ++ u) = rw behind at (turns .behind) in
@@ -175,7 +175,7 @@ module _ (log : List ℕ) (n trust : ℕ) (schedule : List ℕ) where
       let room : 15 + n + 5 * k ≤ 8 * length log = parts .room in
       let behind : 6 + n + 9 ≡ 15 + n = omega arith in
       let at-start : Stands log 0 (toBits 6 n ++ drop 6 (bits log)) = rw (parts .count) at (stands-field log 0 6 (omega arith)) in
-      let at-trust : Stands log 6 (trustBits n trust ++ drop (6 + n) (bits log)) = trust-stands log 6 n trust (omega arith) bit in
+      let at-trust : Stands log 6 (officeBits n trust ++ drop (6 + n) (bits log)) = trust-stands log 6 n trust (omega arith) bit in
       let at-length : Stands log (6 + n) (toBits 9 k ++ drop (15 + n) (bits log)) = rw (parts .epochs, behind) at (stands-field log (6 + n) 9 (omega arith)) in
       let at-leaders : Stands log (15 + n) (leaderBits schedule ++ drop (15 + n + 5 * k) (bits log)) = rw (parts .leaders) at (leaders-stand log (15 + n) k room) in
       at-start ∙ rw (at-trust, at-length, at-leaders) (simp append-assoc)

@@ -18,7 +18,7 @@ use Rattle.quorum.specs.Opening.{openingTests, openingRefusal}
 use Rattle.packed_log.specs.declared.{row.Row.Row, writing.Wrote.Wrote}
 use Rattle.packed_log.specs.{Bits.toBits, Bits.put, Rows.Narrow}
 use Rattle.packed_log.specs.Widths.{kinds, width, due}
-use Rattle.packed_log.specs.Writing.{trustBits, leaderBits, openingBits, rowBits, endBits, wide, room, short, HasRoom, rowRefused, endRefused, wrote, laid, openingRefused}
+use Rattle.packed_log.specs.Writing.{officeBits, leaderBits, openingBits, rowBits, endBits, wide, room, short, HasRoom, rowRefused, endRefused, wrote, laid, openingRefused}
 use Rattle.packed_log.proofs.BitRows.{length-toBits, zero-bits, join-bits, bit-row}
 use Rattle.packed_log.proofs.{BitsLaws.put-put, RowLaws.narrow, Judging.counts-less, Judging.counts-most}
 
@@ -76,8 +76,8 @@ unfolding rowBits
 length-row r = simp (length-append, length-toBits) (omega arith)
 
 -- n trust bits are n long
-pub length-trust : (n trust : ℕ) → length (trustBits n trust) ≡ n
-unfolding trustBits
+pub length-trust : (n trust : ℕ) → length (officeBits n trust) ≡ n
+unfolding officeBits
 length-trust zero trust = refl
 length-trust (suc n) trust = rw (length-append, length-trust n trust) (add-one n)
 
@@ -157,12 +157,12 @@ module _ (l : List ℕ) (p size left refusal : ℕ) (t : List Bool) (counted : s
         call-laid l m p (p + size) 0 refusal t none refl (rw counted) h
 
 -- a loop's next turn: the trust bits of the offices below q are laid, and now that of office q
-pub next-trust-bit : (l m m′ : List ℕ) (p q trust d : ℕ) → m ≡ put l p (trustBits q trust) → d ≡ digit 2 trust q
-    → m′ ≡ put m (p + q) (toBits 1 d) → m′ ≡ put l p (trustBits (q + 1) trust)
-unfolding trustBits
+pub next-trust-bit : (l m m′ : List ℕ) (p q trust d : ℕ) → m ≡ put l p (officeBits q trust) → d ≡ digit 2 trust q
+    → m′ ≡ put m (p + q) (toBits 1 d) → m′ ≡ put l p (officeBits (q + 1) trust)
+unfolding officeBits
 next-trust-bit l m m′ p q trust d before e written =
     written ∙ rw (before, e, add-one, ← bit-row (digit 2 trust q) (digit-lt 2 trust q (omega arith)))
-    (put-next l p (trustBits q trust) (toBits 1 (digit 2 trust q)) (p + q) (rw length-trust))
+    (put-next l p (officeBits q trust) (toBits 1 (digit 2 trust q)) (p + q) (rw length-trust))
 
 -- the bits of a schedule with one leader more
 leaders-snoc : (schedule : List ℕ) (q : ℕ) → leaderBits (schedule ++ (q ∷ [])) ≡ leaderBits schedule ++ toBits 5 q
@@ -180,7 +180,7 @@ next-leader-bits l m m′ p i schedule h before written =
 
 -- n, the trust bits, the length and the leaders, laid one behind the other, are the opening
 pub put-opening : (l : List ℕ) (p n trust : ℕ) (schedule : List ℕ) (l1 l2 l3 l4 : List ℕ)
-    → l1 ≡ put l p (toBits 6 n) → l2 ≡ put l1 (p + 6) (trustBits n trust)
+    → l1 ≡ put l p (toBits 6 n) → l2 ≡ put l1 (p + 6) (officeBits n trust)
     → l3 ≡ put l2 (p + 6 + n) (toBits 9 (length schedule)) → l4 ≡ put l3 (p + 6 + n + 9) (leaderBits schedule)
     → l4 ≡ put l p (openingBits n trust schedule)
 unfolding openingBits

@@ -1,6 +1,7 @@
 -- The packed log. Read in this order.
 pub mod Bits
 pub mod Windows
+pub mod Fields
 pub mod Widths
 pub mod Rows
 pub mod Items

@@ -15,10 +15,10 @@ use Rattle.packed_log.specs.Bits.{toBits, put}
 use Rattle.packed_log.specs.Rows.{rowOf}
 use Rattle.packed_log.specs.Widths.{width}
 
--- the trust bits of n offices, office 0 first
-unfoldable pub trustBits : (n trust : ℕ) → List Bool
-trustBits zero trust = []
-trustBits (suc n) trust = trustBits n trust ++ (inSet trust n ∷ [])
+-- a bit for each of n offices, office 0 first: whether it is in a set, as the trust word is one
+unfoldable pub officeBits : (n set : ℕ) → List Bool
+officeBits zero set = []
+officeBits (suc n) set = officeBits n set ++ (inSet set n ∷ [])
 
 -- the leaders of a schedule
 unfoldable pub leaderBits : (schedule : List ℕ) → List Bool
@@ -27,7 +27,7 @@ leaderBits (q ∷ schedule) = toBits 5 q ++ leaderBits schedule
 
 -- the bits of an opening: n, the trust bits, the schedule's length, the leaders
 unfoldable pub openingBits : (n trust : ℕ) → (schedule : List ℕ) → List Bool
-openingBits n trust schedule = toBits 6 n ++ trustBits n trust ++ toBits 9 (length schedule) ++ leaderBits schedule
+openingBits n trust schedule = toBits 6 n ++ officeBits n trust ++ toBits 9 (length schedule) ++ leaderBits schedule
 
 -- the bits of a row: its kind, and then its fields without gaps
 unfoldable pub rowBits : Row → List Bool

@@ -42,6 +42,14 @@ fn window_at(log: &[u8], i: usize) -> u32
     byte_at(log, i) * 65536 + byte_at(log, i + 1) * 256 + byte_at(log, i + 2)
 }
 
+// The `width` bits of a number that stand above its lowest `behind`.
+pub(crate) fn part_of(number: u32, behind: usize, width: usize) -> u16
+    requires { ⌜ (behind < 32) × (width ≤ 16) ⌝ }
+    ensures { λ r. ⌜ (r ≡ number / 2 ^ behind % 2 ^ width) × (r < 2 ^ width) ⌝ }
+{
+    ((number >> behind) % (1 << width)) as u16
+}
+
 // The number in the `width` bits from position `at` on, 0 where the width is 0.
 pub(crate) fn read_bits(log: &[u8], at: usize, width: usize) -> u16
     requires { ⌜ (width ≤ 16) × (at + width ≤ 8 * length (now log)) × (length (now log) ≤ 65536) ⌝ }
@@ -50,9 +58,7 @@ pub(crate) fn read_bits(log: &[u8], at: usize, width: usize) -> u16
     if width == 0 {
         return 0;
     }
-    let bits = window_at(log, at / 8);
-    let behind = 24 - at % 8 - width;
-    ((bits >> behind) % (1 << width)) as u16
+    part_of(window_at(log, at / 8), 24 - at % 8 - width, width)
 }
 
 // Byte i of the buffer becomes b; past its end no byte does.

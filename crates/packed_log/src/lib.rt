@@ -1,5 +1,6 @@
 // The packed log: its bits, its items, and the reading and writing of both.
 mod bits;
+mod field;
 pub mod item;
 pub mod opening;
 mod opening_writing;
@@ -9,6 +10,8 @@ mod row;
 mod widths;
 pub mod writing;
 
+pub use field::read_field;
+pub use field::write_field;
 pub use item::Item;
 pub use item::Read;
 pub use item::Skipped;

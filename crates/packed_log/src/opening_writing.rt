@@ -4,7 +4,7 @@ ghost use Prim.Native.Nat.{_+_, _*_, _≤_, _<_};
 ghost use lib.ListN.{length};
 ghost use Rattle.words.specs.Lent.{lent, given};
 ghost use Rattle.packed_log.specs.Bits.{put};
-ghost use Rattle.packed_log.specs.Writing.{trustBits, leaderBits, openingBits, HasRoom, Led, openingRefused, wrote, laid};
+ghost use Rattle.packed_log.specs.Writing.{officeBits, leaderBits, openingBits, HasRoom, Led, openingRefused, wrote, laid};
 use crate::bits::write_bits;
 use crate::opening::COUNT_WIDTH;
 use crate::opening::LEADER_WIDTH;
@@ -16,7 +16,7 @@ use crate::writing::room_of;
 // Lays the trust bits of n offices over the buffer from position `at` on, office 0 first.
 fn write_trust(buf: &mut [u8], at: usize, n: u8, trust: u32)
     requires { ⌜ (n ≤ 32) × HasRoom (now buf) at n ⌝ }
-    ensures { λ _. ⌜ given buf ≡ put (lent buf) at (trustBits n trust) ⌝ }
+    ensures { λ _. ⌜ given buf ≡ put (lent buf) at (officeBits n trust) ⌝ }
 {
     let mut q = 0;
     while q < n {

@@ -5,13 +5,13 @@ use mathlib.Core.Path.{_≡_, sym, ap, _∙_}
 use native.Mathlib.Omega.{arith}
 use lib.ListN.{length}
 use Rattle.words.proofs.Digits.{digit-lt}
-use Rattle.packed_log.specs.{Bits.put, Writing.trustBits}
+use Rattle.packed_log.specs.{Bits.put, Writing.officeBits}
 use Rattle.packed_log.proofs.{BitsLaws.put-none, BitsLaws.length-put, WritingLaws.next-trust-bit}
 use Rattle.packed_log.proofs.opening_writing.write_trust.Statement.{statement}
 use Rattle.packed_log.proofs.opening_writing.write_trust.Tie as tie
 
 abbrev Inv-loop : tie.InvT-loop
-Inv-loop buf₀ at n trust q₀ buf q = (q ≤ n) × (buf ≡ put buf₀ at (trustBits q trust))
+Inv-loop buf₀ at n trust q₀ buf q = (q ≤ n) × (buf ≡ put buf₀ at (officeBits q trust))
 
 abbrev μ-loop : tie.MeasureT-loop
 μ-loop buf₀ at n trust q₀ buf q = n - q
@@ -30,7 +30,7 @@ returns c =
     c .before .loop .inv .1 ∙ rw end
 
 pub write-trust-spec : {M : Type 1} → statement M
-unfolding trustBits
+unfolding officeBits
 write-trust-spec =
     tie.close (tie.spec
     Inv-loop
