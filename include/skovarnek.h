@@ -1,7 +1,8 @@
 /* Skovarnek: checks a packed log of Streamlet steps and writes a report of it.
  *
  * The report is proved to be the one that the rules lay down, for every log and every buffer. docs/RULES.md has the rules and every number of a
- * report in plain words, docs/LOG-FORMAT.md says how a log is written. Link with libskovarnek.a or libskovarnek.so.
+ * report in plain words, docs/LOG-FORMAT.md says how a log is written. Link with libskovarnek.a or libskovarnek.so. Slips have a header and a library of
+ * their own: skovarnek_slip.h.
  *
  * The platform is Linux on x86-64, any such processor, with the System V calling convention. The code is position-independent and takes memcpy and
  * memset from the C library, and nothing else from anywhere; a shared library built with glibc runs with glibc 2.14 or newer.
@@ -16,11 +17,11 @@
 extern "C" {
 #endif
 
-/* The version. PATCH changes where every log keeps its report and this header its promises. MINOR changes where some log gets another report, or
- * a number of this header changes: build again what was built with the older header, and look at what reads reports. MAJOR is 0 as long
- * as that is to be expected; from 1 on it changes in the place of MINOR, and MINOR where something is added. */
+/* The version, of this library and of libskovarnek_slip. PATCH changes where every log keeps its report and the headers their promises. MINOR changes
+ * where some log gets another report, a number of a header changes, or a call is added: build again what was built with the older header, and look at
+ * what reads reports. MAJOR is 0 as long as that is to be expected; from 1 on it changes in the place of MINOR, and MINOR where something is added. */
 #define SKOVARNEK_VERSION_MAJOR 0
-#define SKOVARNEK_VERSION_MINOR 5
+#define SKOVARNEK_VERSION_MINOR 6
 #define SKOVARNEK_VERSION_PATCH 0
 
 /* The version as a string, as "1.2.3". */

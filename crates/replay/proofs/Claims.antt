@@ -1,9 +1,12 @@
--- The claims of specs/Claims: a log without a fault is a run that it reads as, its final chains agree and never go back, and some office is
--- trusted.
+-- The claims of specs/Claims: a log without a fault is a run that it reads as, its final chains agree and never go back, some office is
+-- trusted, and running it ends at its last place.
 use Prim.Native.Nat.{ℕ, zero, suc}
 use mathlib.Core.Path.{_≡_, refl, _∙_}
 use mathlib.Core.List.{List}
+use native.Mathlib.Omega.{arith}
 use lib.Dec.{eqb, eqb·suc-zero}
+use lib.ListN.{length}
+use lib.Seq.{take-all}
 use Rattle.words.specs.Tests.{choose}
 use Rattle.register.specs.Opening.{opening}
 use Rattle.register.specs.Runs.{opened, moment}
@@ -14,8 +17,19 @@ use Rattle.agreement.proofs.Consequences.{never-back}
 use Rattle.packed_log.specs.Openings.{openingIn}
 use Rattle.packed_log.proofs.OpeningsReadBack.{opening-opens}
 use Rattle.replay.specs.Bodies.{bodyOf, faultOf}
+use Rattle.replay.specs.Endings.{lastOf, endOf}
 use Rattle.replay.proofs.BodyLaws.{reads-body, body-reads}
-use Rattle.replay.specs.Claims.{caseOf, RunOf, LogsAreRuns, ReadsHaveNoFault, placeIn, LogsAgree, LogsNeverGoBack, SomeoneIsTrusted}
+use Rattle.replay.specs.Claims.{
+  caseOf,
+  RunOf,
+  LogsAreRuns,
+  ReadsHaveNoFault,
+  placeIn,
+  LogsAgree,
+  LogsNeverGoBack,
+  SomeoneIsTrusted,
+  RunsEndAtTheLastPlace,
+}
 
 -- where neither the opening nor what stands behind it is refused, the opening is not
 none-first : (opening body : ℕ) → choose (eqb opening 0) body opening ≡ 0 → opening ≡ 0
@@ -69,3 +83,8 @@ unfolding SomeoneIsTrusted LogsAreRuns
 someone-is-trusted log reads i =
     let held : RunOf log = logs-are-runs log reads in
     rw (place-moment log held i) (someone (safe-moment (held .run) i))
+
+-- running a log that reads ends at its last place
+pub runs-end-at-the-last-place : RunsEndAtTheLastPlace
+unfolding RunsEndAtTheLastPlace placeIn endOf lastOf choose
+runs-end-at-the-last-place log reads = rw (reads, take-all (length (bodyOf log .steps)) (bodyOf log .steps) (omega arith))

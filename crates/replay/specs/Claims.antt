@@ -1,5 +1,5 @@
 -- What is claimed of logs: one has no fault exactly when it reads as an opening with steps; then it is a run, its final chains agree and never go
--- back, and some office is trusted.
+-- back, some office is trusted, and running it ends at its last place.
 use Prim.Native.Nat.{ℕ, _≤_, _<_}
 use mathlib.Core.Path.{_≡_}
 use mathlib.Core.List.{List}
@@ -16,6 +16,7 @@ use Rattle.agreement.specs.Claim.{chainOf, finalChain, Trusted, Notarised, Begi
 use Rattle.packed_log.specs.Openings.{openingIn}
 use Rattle.packed_log.specs.Logs.{Case, Reads}
 use Rattle.replay.specs.Bodies.{bodyOf, faultOf}
+use Rattle.replay.specs.Endings.{endOf}
 
 -- the opening with steps that a run is made of
 unfoldable pub caseOf : Run → Case
@@ -64,3 +65,7 @@ LogsNeverGoBack =
 -- Of every log that reads: some office is trusted, at every place of it.
 unfoldable pub SomeoneIsTrusted : Type 0
 SomeoneIsTrusted = (log : List ℕ) → faultOf log ≡ 0 → (i : ℕ) → 0 < tally mostOffices (trusted (bookOf (placeIn log i)))
+
+-- Of every log that reads: the register that running it gives is that of its last place.
+unfoldable pub RunsEndAtTheLastPlace : Type 0
+RunsEndAtTheLastPlace = (log : List ℕ) → faultOf log ≡ 0 → endOf log .register ≡ placeIn log (length (bodyOf log .steps))

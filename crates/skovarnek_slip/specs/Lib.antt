@@ -1,0 +1,2 @@
+-- The answers of the C calls about slips.
+pub mod Answers
