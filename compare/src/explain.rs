@@ -1,12 +1,15 @@
 //! The report explained: beside each line the step's text and why it was refused
 //! in this run, or what it changed and for whom. Epochs are headings, and the
-//! comments of a text stand before their steps.
+//! comments of a text stand before their steps. Slips are explained too.
 
 mod chains;
 mod changed;
 mod refused;
 mod rows;
+mod slips;
 mod words;
+
+pub use slips::{explain_slip, why_not_written};
 
 use crate::packed::read_log;
 use crate::refusal::Refusal;

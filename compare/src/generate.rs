@@ -1,4 +1,4 @@
-//! Logs made from seeds: the same seed always gives the same log.
+//! Logs made from seeds, and slips on them: the same seed always gives the same.
 
 mod beginnings;
 mod damage;
@@ -11,9 +11,11 @@ mod quorums;
 mod random;
 mod run;
 mod sensible;
+mod slips;
 
-pub use heavy::{Row, rows};
+pub use heavy::{Row, SlipRow, rows, slip_rows};
 pub use random::Random;
+pub use slips::{SlipCalls, Writing, slip_calls};
 
 /// The log of a seed: a sensible run, two chains that grow in turn, random
 /// steps, full tables, first blocks, blocks with just enough signers or damage.

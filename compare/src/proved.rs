@@ -1,6 +1,8 @@
-//! The proved checker, through its C call.
+//! The proved checker, through its C call, and the proved slips.
 
 #![allow(unsafe_code)]
+
+pub mod slip;
 
 use crate::report::report_bound;
 
@@ -9,7 +11,7 @@ unsafe extern "C" {
     -> usize;
 }
 
-/// A log as a C program lends it.
+/// A log or a slip to be read, as a C program lends it.
 #[derive(Clone, Copy, Debug)]
 pub enum LentLog<'a> {
     Bytes(&'a [u8]),
@@ -25,6 +27,26 @@ pub enum LentBuffer<'a> {
     NoBytes(*mut u8),
 }
 
+impl LentLog<'_> {
+    /// Pointer and length.
+    fn parts(&self) -> (*const u8, usize) {
+        match *self {
+            LentLog::Bytes(bytes) => (bytes.as_ptr(), bytes.len()),
+            LentLog::NoBytes(pointer) => (pointer, 0),
+        }
+    }
+}
+
+impl LentBuffer<'_> {
+    /// Pointer and length.
+    fn parts(self) -> (*mut u8, usize) {
+        match self {
+            LentBuffer::Bytes(bytes) => (bytes.as_mut_ptr(), bytes.len()),
+            LentBuffer::NoBytes(pointer) => (pointer, 0),
+        }
+    }
+}
+
 /// Writes the report on a log into the buffer and gives its length; later bytes
 /// are untouched. If the report doesn't fit: 0, and the whole buffer is zero.
 pub fn check_into(log: &[u8], buffer: &mut [u8]) -> usize {
@@ -33,14 +55,7 @@ pub fn check_into(log: &[u8], buffer: &mut [u8]) -> usize {
 
 /// The same with what a C program may lend.
 pub fn check_lent(log: LentLog, buffer: LentBuffer) -> usize {
-    let (log, log_len) = match log {
-        LentLog::Bytes(bytes) => (bytes.as_ptr(), bytes.len()),
-        LentLog::NoBytes(pointer) => (pointer, 0),
-    };
-    let (report, report_len) = match buffer {
-        LentBuffer::Bytes(bytes) => (bytes.as_mut_ptr(), bytes.len()),
-        LentBuffer::NoBytes(pointer) => (pointer, 0),
-    };
+    let ((log, log_len), (report, report_len)) = (log.parts(), buffer.parts());
     // SAFETY: a pointer with a length above 0 comes from a borrow that outlives
     // the call, and the exclusive one of the buffer keeps it apart from the log.
     // With a length of 0 the call takes any pointer.

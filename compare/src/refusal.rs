@@ -1,6 +1,6 @@
 //! The numbers of refusal.
 
-/// Why an opening, a step or a log is refused.
+/// Why an opening, a step, a log or a slip is refused.
 #[derive(Clone, Copy, Debug, PartialEq, Eq, PartialOrd, Ord, Hash)]
 #[repr(u8)]
 pub enum Refusal {
@@ -36,13 +36,15 @@ pub enum Refusal {
     NoSuchStep = 28,
     Ending = 29,
     LongLog = 30,
-    /// Never given here: logs are written into memory that grows.
+    /// Given for slips alone: logs are written into memory that grows.
     ShortBuffer = 31,
     Behind = 32,
+    SlipForm = 33,
+    UnsignedMark = 34,
 }
 
 /// Word and meaning of the refusals, from number 1 up.
-pub const TABLE: [(&str, &str); 32] = [
+pub const TABLE: [(&str, &str); 34] = [
     ("count", "n not 1 to 32"),
     ("schedule", "length not 1 to 256"),
     ("stray leader", "a leader is n or above"),
@@ -90,6 +92,8 @@ pub const TABLE: [(&str, &str); 32] = [
         "behind",
         "final chain would be shorter than the present one",
     ),
+    ("slip form", "slip of a wrong length, or with a pad bit set"),
+    ("unsigned mark", "a marked signature isn't in the history"),
 ];
 
 impl Refusal {

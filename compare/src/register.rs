@@ -18,7 +18,7 @@ pub use numbers::{Block, Epoch, GENESIS, Message, Office};
 pub use opening::{Opening, check_count, check_leader, check_length, check_third};
 pub use step::{MOST_FIELDS, STEP_KINDS, Step};
 pub use steps::Answer;
-pub use view::{Notarised, View, fewest_signers, is_quorum};
+pub use view::{Notarised, Signers, View, fewest_signers, is_quorum};
 
 pub const MOST_OFFICES: u8 = 32;
 pub const LONGEST_SCHEDULE: usize = 256;
@@ -150,6 +150,18 @@ impl Register {
 
     pub fn final_block(&self, office: Office) -> Block {
         self.local[office.index()].final_block
+    }
+
+    /// The chain of a block, genesis not among it, the oldest block first.
+    pub fn chain(&self, last: Block) -> Vec<Block> {
+        let mut chain = Vec::new();
+        let mut block = last;
+        while block != GENESIS {
+            chain.push(block);
+            block = self.block(block).parent;
+        }
+        chain.reverse();
+        chain
     }
 
     /// The chain of a block runs from genesis to it; its length counts the

@@ -1,13 +1,16 @@
 //! Packed logs for people: `logtool text < log`, `logtool log < text`, and of a
-//! log or a text `logtool explain`, `logtool mistake NAME` and `logtool draw`.
+//! log or a text `logtool explain`, `logtool mistake NAME`, `logtool draw` and
+//! `logtool slip`.
 
 use skovarnek_compare::draw;
 use skovarnek_compare::explain;
 use skovarnek_compare::mistaken;
 use skovarnek_compare::packed::{read_log, write_log};
-use skovarnek_compare::report::EMPTY;
-use skovarnek_compare::text;
+use skovarnek_compare::register::{Block, Office, Register};
+use skovarnek_compare::report::{EMPTY, run_with};
+use skovarnek_compare::{slip, text};
 use std::env;
+use std::fs;
 use std::io::{self, Read, Write};
 use std::process::ExitCode;
 
@@ -18,7 +21,10 @@ and of a log or a text:
        logtool explain < LOG               the report, each line with its reason
        logtool mistake NAME < LOG          where a student's wrong checker differs; NAME or `all`
        logtool draw < LOG                  the block tree as an SVG picture
-               [--office Q] [--step K]     as office Q sees it, after step K";
+               [--office Q] [--step K]     as office Q sees it, after step K
+       logtool slip write OFFICE BLOCK < LOG > SLIP
+                                           a slip for the block from the office's view
+       logtool slip explain SLIP < LOG     who is marked in that file, and what it gets";
 
 fn main() -> ExitCode {
     let arguments: Vec<String> = env::args().skip(1).collect();
@@ -29,6 +35,8 @@ fn main() -> ExitCode {
         ["explain"] => explain(),
         ["mistake", name] => mistake(name),
         ["draw", ref choices @ ..] => draw_tree(choices),
+        ["slip", "write", office, block] => write_slip(office, block),
+        ["slip", "explain", slip] => explain_slip(slip),
         _ => Err(USAGE.to_string()),
     };
     match result {
@@ -94,6 +102,39 @@ fn mistake(name: &str) -> Result<(), String> {
 fn draw_tree(choices: &[&str]) -> Result<(), String> {
     let choice = draw::choose(choices)?;
     output(draw::draw(&choice, &input()?)?.as_bytes())
+}
+
+/// The slip's bytes, or why there is none.
+fn write_slip(office: &str, block: &str) -> Result<(), String> {
+    let (office, block) = (Office(byte(office)?), Block(byte(block)?));
+    let register = register_at_the_end()?;
+    let slip = slip::write(&register, office, block)
+        .map_err(|refusal| explain::why_not_written(&register, office, block, refusal))?;
+    output(&slip.bytes(register.n()))
+}
+
+/// A file that can't be read is noticed before the log is.
+fn explain_slip(file: &str) -> Result<(), String> {
+    let slip = fs::read(file).map_err(|error| format!("{file}: {error}"))?;
+    let register = register_at_the_end()?;
+    output(explain::explain_slip(&register, &slip).as_bytes())
+}
+
+/// The register that the log or text leads to.
+fn register_at_the_end() -> Result<Register, String> {
+    let log = text::given(&input()?)?.log;
+    Ok(run_with(&log, None).1)
+}
+
+/// The number of an office or a block, whether there is one or not.
+fn byte(word: &str) -> Result<u8, String> {
+    let digits = word.bytes().all(|byte| byte.is_ascii_digit());
+    match word.parse() {
+        Ok(number) if digits => Ok(number),
+        _ => Err(format!(
+            "slip write takes numbers from 0 to 255, not `{word}`"
+        )),
+    }
 }
 
 fn input() -> Result<Vec<u8>, String> {

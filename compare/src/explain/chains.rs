@@ -1,7 +1,7 @@
 //! What an office's view says of chains.
 
 use super::words::{all_messages, block_name, blocks, listed, of_word};
-use crate::register::{Block, GENESIS, Office, Place, Register, View, fewest_signers};
+use crate::register::{Block, Office, Place, Register, View, fewest_signers};
 
 /// A longer chain is named by its newest block alone.
 const LISTED_CHAIN: usize = 8;
@@ -51,21 +51,9 @@ impl Standing {
     }
 }
 
-/// The chain of a block, genesis not among it, the oldest block first.
-pub fn chain(register: &Register, last: Block) -> Vec<Block> {
-    let mut chain = Vec::new();
-    let mut block = last;
-    while block != GENESIS {
-        chain.push(block);
-        block = register.block(block).parent;
-    }
-    chain.reverse();
-    chain
-}
-
 /// `chain 1, 2 (2 blocks)`, without its blocks if they are many.
 pub fn chain_name(register: &Register, last: Block) -> String {
-    let chain = chain(register, last);
+    let chain = register.chain(last);
     match chain.len() {
         0 => "chain of genesis".to_string(),
         length if length > LISTED_CHAIN => {
@@ -119,7 +107,7 @@ fn signed_outside(register: &Register, office: Office, block: Block) -> u32 {
 /// notarised, since no trusted office signs it.
 pub fn chain_faults(register: &Register, office: Office, last: Block) -> Option<String> {
     let view = register.view(office);
-    let mut failing = chain(register, last);
+    let mut failing = register.chain(last);
     failing.retain(|&block| !view.is_notarised_link(block));
     failing.reverse();
     let more = failing.len().saturating_sub(NAMED_FAULTS);

@@ -1,6 +1,6 @@
 //! What an accepted step changed, and for whom.
 
-use super::chains::{Standing, chain, chain_faults, chain_name, lack};
+use super::chains::{Standing, chain_faults, chain_name, lack};
 use super::words::{all_messages, block_list, block_name, blocks, in_transit_to, of_word, said};
 use crate::register::{Block, GENESIS, Message, Office, Register, Step};
 
@@ -178,8 +178,8 @@ fn made_final(register: &Register, office: Office, b: Block, before: &Before) ->
             c.0, b.0, office.0
         )];
     }
-    let old = chain(register, before.final_block);
-    let new = &chain(register, c)[old.len()..];
+    let old = register.chain(before.final_block);
+    let new = &register.chain(c)[old.len()..];
     vec![
         format!(
             "block {}, the parent of block {}, is now final for office {}",

@@ -260,32 +260,40 @@ fn epochs(register: &Register, block: Block) -> String {
 
 /// 21: each part of the condition that fails.
 fn not_final(register: &Register, office: Office, b: Block) -> String {
-    if b == GENESIS {
-        return "genesis has no parent that could become final".to_string();
-    }
-    let c = register.block(b).parent;
-    let number = b.0;
-    if c == GENESIS {
-        return format!("naming block {number} makes its parent final, and that is genesis");
-    }
-    let d = register.block(c).parent;
-    let [oldest, middle, newest] = [d, c, b].map(|block| register.block(block).epoch.0);
-    let mut reasons = Vec::new();
-    if middle != oldest + 1 || newest != middle + 1 {
-        reasons.push(format!(
-            "{}, block {} and block {number} are of epochs {}, not consecutive",
-            block_name(d),
-            c.0,
-            listed([oldest, middle, newest].iter())
-        ));
-    }
-    if let Some(faults) = chain_faults(register, office, b) {
-        let office = office.0;
+    let mut reasons: Vec<String> = no_run_of_three(register, b).into_iter().collect();
+    if register.block(b).parent != GENESIS
+        && let Some(faults) = chain_faults(register, office, b)
+    {
+        let (number, office) = (b.0, office.0);
         reasons.push(format!(
             "the chain of block {number} is not notarised for office {office}: {faults}"
         ));
     }
     reasons.join("; ")
+}
+
+/// Why a block is not the newest of three of consecutive epochs, if it isn't.
+pub fn no_run_of_three(register: &Register, b: Block) -> Option<String> {
+    if b == GENESIS {
+        return Some("genesis has no parent that could become final".to_string());
+    }
+    let c = register.block(b).parent;
+    if c == GENESIS {
+        let parent = "makes its parent final, and that is genesis";
+        return Some(format!("naming block {} {parent}", b.0));
+    }
+    if register.ends_three_in_a_row(b) {
+        return None;
+    }
+    let d = register.block(c).parent;
+    let epochs = [d, c, b].map(|block| register.block(block).epoch.0);
+    Some(format!(
+        "{}, block {} and block {} are of epochs {}, not consecutive",
+        block_name(d),
+        c.0,
+        b.0,
+        listed(epochs.iter())
+    ))
 }
 
 /// 32.

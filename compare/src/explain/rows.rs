@@ -51,7 +51,12 @@ impl Rows {
     /// A line of the report on an office, and its note.
     pub fn office(&mut self, line: &[u8], note: &str) {
         let line = String::from_utf8_lossy(line);
-        self.note(&format!("{:<NOTE$}", line.trim_end()), note);
+        self.noted(line.trim_end(), note);
+    }
+
+    /// A line and its note.
+    pub fn noted(&mut self, line: &str, note: &str) {
+        self.note(&format!("{line:<NOTE$}"), note);
     }
 
     /// A note, broken between words where the line is full; what follows stands

@@ -5,7 +5,10 @@ mod crowded;
 mod dear;
 mod fork;
 mod offices;
+mod slips;
 mod tables;
+
+pub use slips::{SlipRow, slip_rows};
 
 use super::random::Random;
 use super::run::Run;

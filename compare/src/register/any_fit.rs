@@ -1,9 +1,11 @@
-//! Signers and their count on fit registers of any content. In most of them a view
-//! has several messages of one signer about one block, which no log can bring.
+//! Signers, their count and slips on fit registers of any content. In most of them
+//! a view has several messages of one signer about one block, which no log can
+//! bring.
 
 use super::{Block, BlockRecord, Epoch, Kind, MessageRecord, Notarised, Office, Opening, Place};
 use super::{GENESIS, Register};
 use crate::generate::Random;
+use crate::slip;
 use std::collections::BTreeSet;
 
 /// n offices, n often 32, and anything in the tables that keeps to its range.
@@ -105,4 +107,24 @@ fn messages_of_one_signer_count_once() {
         }
     }
     assert!(misled > 500, "{misled}");
+}
+
+/// Every slip that is written is accepted, also where no log leads.
+#[test]
+fn slips_of_any_fit_register() {
+    let mut random = Random::new(5);
+    let mut written = 0;
+    for _ in 0..2000 {
+        let register = any_fit(&mut random);
+        for office in register.trusted_offices() {
+            for block in (0..=register.last_block().0).map(Block) {
+                if let Ok(slip) = slip::write(&register, office, block) {
+                    let answer = slip::check(&register, &slip.bytes(register.n()));
+                    assert_eq!(answer, Ok(register.block(block).parent));
+                    written += 1;
+                }
+            }
+        }
+    }
+    assert!(written > 100, "{written}");
 }

@@ -3,6 +3,7 @@
 use super::{Block, BlockRecord, Epoch, GENESIS, Kind, MessageRecord, Office, Opening, Place};
 use super::{Notarised, Register};
 use crate::refusal::Refusal;
+use crate::slip;
 
 /// Three trusted offices, led by office 0, with these blocks (parent, epoch)
 /// and these messages (signer, block), all in the view of office 0.
@@ -212,4 +213,41 @@ fn from_genesis_behind() {
     let refused = Err(Refusal::Behind);
     assert_eq!(register.finalise(Office(0), Block(5)), refused);
     assert_eq!(register.final_block(Office(0)), Block(2));
+}
+
+/// The slip of block 4 on blocks 1 to 3, marked for offices 0 and 1.
+const SLIP_OF_4: [u8; 3] = [0x04, 0xDB, 0x60];
+
+#[test]
+fn a_slip_of_a_chain_that_is_not_valid() {
+    // Block 2 has the epoch of its parent. Blocks 2 to 4 are a run of three.
+    let register = made(&[(0, 3), (1, 3), (2, 4), (3, 5)], &signed_up_to(4));
+    let refused = Err(Refusal::NotFinal);
+    assert_eq!(slip::check(&register, &SLIP_OF_4), refused);
+    let written = slip::write(&register, Office(0), Block(4));
+    assert_eq!(written, Err(Refusal::NotFinal));
+    let register = made(&[(0, 2), (1, 3), (2, 4), (3, 5)], &signed_up_to(4));
+    assert_eq!(slip::check(&register, &SLIP_OF_4), Ok(Block(3)));
+    let written = slip::write(&register, Office(0), Block(4)).expect("a right chain");
+    assert_eq!(written.bytes(3), SLIP_OF_4);
+}
+
+#[test]
+fn a_slip_over_a_block_of_epoch_0() {
+    let register = made(&[(0, 0), (1, 1), (2, 2)], &signed_up_to(3));
+    let refused = Err(Refusal::NotFinal);
+    assert_eq!(slip::check(&register, &[0x03, 0xDB, 0x00]), refused);
+}
+
+#[test]
+fn a_slip_of_repeated_signatures() {
+    // Both offices sign both blocks, one of them twice.
+    let messages = [(0, 1), (0, 1), (1, 1), (0, 2), (1, 2), (1, 2)];
+    let register = made(&[(0, 1), (1, 2)], &messages);
+    let written = slip::write(&register, Office(0), Block(2)).expect("a right chain");
+    assert_eq!(written.bytes(3), [0x02, 0xD8]);
+    // One office twice is one mark, and not enough.
+    let register = made(&[(0, 1), (1, 2)], &[(0, 1), (0, 1), (0, 2), (1, 2)]);
+    let written = slip::write(&register, Office(0), Block(2));
+    assert_eq!(written, Err(Refusal::NotFinal));
 }

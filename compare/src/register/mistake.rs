@@ -82,11 +82,11 @@ impl Register {
         self.makes(Mistake::MoreThanTwoThirds) && 3 * signers == 2 * u32::from(self.n())
     }
 
-    /// Whether finalise lets b on c pass though the epochs are not in a row.
-    pub(super) fn overlooks_epochs(&self, b: Block, c: Block) -> bool {
+    /// Whether finalise lets b pass though the epochs are not in a row.
+    pub(super) fn overlooks_epochs(&self, b: Block) -> bool {
         match self.mistake {
             Some(Mistake::VotesAreFinal) => b != GENESIS,
-            Some(Mistake::LateFinaliser) => c != GENESIS,
+            Some(Mistake::LateFinaliser) => self.block(b).parent != GENESIS,
             _ => false,
         }
     }

@@ -117,19 +117,15 @@ impl Register {
     /// [5 6 7 10 21 32]: b and its parent c are not genesis, while c's parent d
     /// may be; the epochs of b, c and d are k+2, k+1, k, and b's chain is
     /// notarised in the view; the final block becomes c, whose chain may not be
-    /// shorter than the present final chain. The epochs alone keep genesis from
-    /// being b or c: its epoch is 0, which is no k+1 and no k+2.
+    /// shorter than the present final chain.
     pub fn finalise(&mut self, office: Office, b: Block) -> Result<Block, Refusal> {
         self.check_office(office)?;
         self.check_block(b)?;
         self.check_trusted(office)?;
-        let c = self.block(b).parent;
-        let d = self.block(c).parent;
-        let Epoch(k) = self.block(d).epoch;
-        let in_a_row = self.block(c).epoch == Epoch(k + 1) && self.block(b).epoch == Epoch(k + 2);
-        ensure(in_a_row || self.overlooks_epochs(b, c), Refusal::NotFinal)?;
+        let in_a_row = self.ends_three_in_a_row(b) || self.overlooks_epochs(b);
+        ensure(in_a_row, Refusal::NotFinal)?;
         ensure(self.view(office).is_notarised_chain(b), Refusal::NotFinal)?;
-        let c = self.made_final(b, c);
+        let c = self.made_final(b, self.block(b).parent);
         let present = self.final_block(office);
         let behind = self.chain_length(c) < self.chain_length(present);
         ensure(!behind, Refusal::Behind)?;
@@ -203,15 +199,15 @@ impl Register {
     }
 }
 
-/// The refusals that several steps share.
+/// The refusals that several steps share, some of them with slips.
 impl Register {
     /// 6: number ≥ n.
-    fn check_office(&self, office: Office) -> Result<(), Refusal> {
+    pub(crate) fn check_office(&self, office: Office) -> Result<(), Refusal> {
         ensure(office.0 < self.n(), Refusal::NoOffice)
     }
 
     /// 7: number above the last block.
-    fn check_block(&self, block: Block) -> Result<(), Refusal> {
+    pub(crate) fn check_block(&self, block: Block) -> Result<(), Refusal> {
         ensure(block <= self.last_block(), Refusal::NoBlock)
     }
 
@@ -221,7 +217,7 @@ impl Register {
     }
 
     /// 10: actor untrusted.
-    fn check_trusted(&self, office: Office) -> Result<(), Refusal> {
+    pub(crate) fn check_trusted(&self, office: Office) -> Result<(), Refusal> {
         ensure(self.is_trusted(office), Refusal::Barred)
     }
 

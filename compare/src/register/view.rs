@@ -1,13 +1,16 @@
 //! Views: signatures, notarised blocks and chains, the longest of them.
 
-use super::{Block, GENESIS, LAST_BLOCK, Office, Place, Register};
+use super::{Block, Epoch, GENESIS, LAST_BLOCK, Office, Place, Register};
 
 /// What an office's view says of each block: who has signed it.
 pub struct View<'a> {
     register: &'a Register,
-    /// By block, a bit for each office whose signature is in the view.
-    signers: [u32; LAST_BLOCK as usize + 1],
+    /// Those whose signatures are in the view.
+    signers: Signers,
 }
+
+/// By block, a bit for each office that has signed it.
+pub type Signers = [u32; LAST_BLOCK as usize + 1];
 
 /// What the notarised test gives back.
 #[derive(Clone, Copy, Debug, PartialEq, Eq)]
@@ -43,6 +46,33 @@ impl Register {
             register: self,
             signers,
         }
+    }
+
+    /// Who has signed which block in the history: in a message of either kind,
+    /// wherever it is.
+    pub fn signed(&self) -> Signers {
+        let mut signers = [0; LAST_BLOCK as usize + 1];
+        for message in &self.history {
+            signers[message.block.index()] |= 1 << message.signer.0;
+        }
+        signers
+    }
+
+    /// A block from 1 up that can stand in a valid chain: of a greater epoch than
+    /// its parent.
+    pub fn is_valid_link(&self, block: Block) -> bool {
+        let record = self.block(block);
+        record.epoch > self.block(record.parent).epoch
+    }
+
+    /// Whether b, its parent c and c's parent d, which may be genesis, are of
+    /// epochs k+2, k+1, k. The epochs alone keep genesis from being b or c: its
+    /// epoch is 0, which is no k+1 and no k+2.
+    pub fn ends_three_in_a_row(&self, b: Block) -> bool {
+        let c = self.block(b).parent;
+        let d = self.block(c).parent;
+        let Epoch(k) = self.block(d).epoch;
+        self.block(c).epoch == Epoch(k + 1) && self.block(b).epoch == Epoch(k + 2)
     }
 }
 
@@ -93,8 +123,7 @@ impl View<'_> {
     /// A block that can stand in a notarised chain: notarised itself, and of a
     /// greater epoch than its parent.
     pub fn is_notarised_link(&self, block: Block) -> bool {
-        let record = self.register.block(block);
-        self.notarised(block).holds && record.epoch > self.register.block(record.parent).epoch
+        self.notarised(block).holds && self.register.is_valid_link(block)
     }
 
     /// Whether a notarised chain is longer than `length`. A parent's number is

@@ -5,10 +5,14 @@
 mod examples;
 mod numbers;
 mod pieces;
+mod slips;
 mod widths;
 mod worked;
 
+use crate::slips::register_after;
 use skovarnek_compare::check;
+use skovarnek_compare::refusal::Refusal;
+use skovarnek_compare::slip;
 use std::fmt::Debug;
 use std::fs;
 use std::path::Path;
@@ -80,7 +84,7 @@ fn number(cell: &str) -> usize {
         .unwrap_or_else(|_| panic!("no number: {cell}"))
 }
 
-fn from_hex(text: &str) -> Vec<u8> {
+pub fn from_hex(text: &str) -> Vec<u8> {
     let byte = |pair| u8::from_str_radix(pair, 16).expect("a byte in hex");
     text.split_whitespace().map(byte).collect()
 }
@@ -91,4 +95,20 @@ fn report(log: &[u8]) -> String {
     #[cfg(feature = "proved")]
     assert_eq!(skovarnek_compare::proved::check(log), report, "{log:02X?}");
     String::from_utf8(report).expect("a report is text")
+}
+
+/// What a slip gets at the end of a log: 0 or the refusal, and the answer; from
+/// both where the proved calls are linked.
+fn slip_answer(log: &[u8], bytes: &[u8]) -> (usize, usize) {
+    let register = register_after(log).expect("a log that reads");
+    let answer = match slip::check(&register, bytes) {
+        Ok(parent) => (0, parent.index()),
+        Err(refusal) => (Refusal::number(refusal).into(), 0),
+    };
+    #[cfg(feature = "proved")]
+    {
+        let (refusal, parent) = skovarnek_compare::proved::slip::check(log, bytes);
+        assert_eq!((refusal as usize, parent), answer, "slip {bytes:02X?}");
+    }
+    answer
 }

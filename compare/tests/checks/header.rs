@@ -1,11 +1,13 @@
-//! The numbers that the C header gives, against those that the proved code has.
+//! The numbers that the C headers give, against those that the proved code has.
 
 use skovarnek_compare::packed::LONGEST_LOG;
 use skovarnek_compare::report::report_bound;
+use skovarnek_compare::slip::{LONGEST_SLIP, slip_bytes};
 use std::fs;
 use std::path::Path;
 
 pub const HEADER: &str = "include/skovarnek.h";
+pub const SLIP_HEADER: &str = "include/skovarnek_slip.h";
 
 /// Where the contract's bound and the lengths of lines stand.
 const REPORTS: &str = "crates/report/specs/Reports.antt";
@@ -49,4 +51,15 @@ fn bound_of_a_report() {
         assert_eq!(header, report_bound(length));
     }
     assert_eq!(report_bound(usize::MAX), report_bound(LONGEST_LOG));
+}
+
+/// The longest slip is that of the call's contract, and what the header's bound
+/// gives for 32 offices and 255 blocks.
+#[test]
+fn longest_slip() {
+    let header = number_in(SLIP_HEADER, "SKOVARNEK_LONGEST_SLIP ");
+    assert_eq!(header, LONGEST_SLIP);
+    assert_eq!(header, slip_bytes(32, 255));
+    let contract = number_in("crates/skovarnek_slip/src/lib.rt", "(r % 65536 ≤ ");
+    assert_eq!(header, contract);
 }

@@ -2,9 +2,10 @@
 
 use super::forks::{chains_after_fork, notarised_tips, register_after};
 use skovarnek_compare::check;
-use skovarnek_compare::generate::{Row, rows};
+use skovarnek_compare::generate::{Row, rows, slip_rows};
 use skovarnek_compare::packed::read_log;
 use skovarnek_compare::register::{Block, Message, Office, Place, Register, Step};
+use skovarnek_compare::slip;
 use std::collections::{BTreeMap, BTreeSet};
 use std::sync::LazyLock;
 
@@ -224,4 +225,26 @@ fn two_offices_finalise() {
     let register = register_after(&row("finalise, two offices").log).expect("a log that reads");
     let finals = [0, 1, 2].map(|office| register.final_block(Office(office)));
     assert_eq!(finals, [Block(253), Block(253), Block(0)]);
+}
+
+/// The slips to measure with are of the longest chains, on full tables. In the logs
+/// no step is refused.
+#[test]
+fn slips_of_the_longest_chains() {
+    let rows = slip_rows();
+    let wanted = [
+        ("255 blocks, 4 offices", 255, 129),
+        ("46 blocks, 32 offices", 46, 185),
+    ];
+    assert_eq!(rows.len(), wanted.len());
+    for (row, (name, blocks, bytes)) in rows.iter().zip(wanted) {
+        assert_eq!((row.name, row.slip.len()), (name, bytes));
+        let log = read_log(&row.log).expect("a log that reads");
+        let mut register = Register::open(&log.opening).expect("a log that reads opens");
+        assert!(log.steps.iter().all(|step| register.step(step).is_ok()));
+        assert_eq!((register.last_block(), register.sent()), (Block(255), 1024));
+        assert_eq!(register.chain_length(row.block), blocks, "{name}");
+        let parent = register.block(row.block).parent;
+        assert_eq!(slip::check(&register, &row.slip), Ok(parent), "{name}");
+    }
 }

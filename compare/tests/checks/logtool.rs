@@ -1,5 +1,7 @@
 //! The tool as it is called.
 
+mod slips;
+
 use super::cases;
 use skovarnek_compare::check;
 use skovarnek_compare::packed::read_log;

@@ -1,6 +1,6 @@
 //! The tests: hand-written cases, what the generated logs bring, what the logs
 //! to measure with are, that final chains agree and never go back, who has
-//! signed a block and how many have, the text form, the tool, the explained
+//! signed a block and how many have, slips, the text form, the tool, the explained
 //! report, the lessons and their wrong checkers, the pictures, the C header's
 //! numbers, the tables and examples of the documents, and (feature `proved`) the
 //! comparison of both checkers and the proved program, or a word that it is left
@@ -30,6 +30,7 @@ mod registers;
 #[cfg(feature = "proved")]
 mod reports;
 mod signers;
+mod slips;
 mod text;
 
 /// The seeds of the generated logs that the tests look at.

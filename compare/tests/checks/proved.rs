@@ -168,7 +168,7 @@ const EMPTY: &[u8] = b"empty\n";
 const ROOMS: std::ops::RangeInclusive<usize> = 0..=8;
 
 /// Pointers that aren't good for a single byte.
-fn pointers_to_nothing() -> Vec<(&'static str, *mut u8)> {
+pub fn pointers_to_nothing() -> Vec<(&'static str, *mut u8)> {
     let mut bytes = vec![DIRT; 8];
     let freed = bytes.as_mut_ptr();
     drop(bytes);

@@ -93,6 +93,8 @@ fn numbers_and_words() {
         (Refusal::Ending, 29, "ending"),
         (Refusal::ShortBuffer, 31, "short buffer"),
         (Refusal::Behind, 32, "behind"),
+        (Refusal::SlipForm, 33, "slip form"),
+        (Refusal::UnsignedMark, 34, "unsigned mark"),
     ];
     for (refusal, number, word) in words {
         assert_eq!((refusal.number(), refusal.word()), (number, word));

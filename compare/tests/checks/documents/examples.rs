@@ -1,7 +1,7 @@
 //! The examples of both documents, run.
 
 use super::numbers::NUMBERS;
-use super::{FORMAT, RULES, from_hex, number, quoted, report, table, text_of};
+use super::{FORMAT, RULES, from_hex, number, quoted, report, slip_answer, table, text_of};
 use skovarnek_compare::packed::{LONGEST_LOG, write_log};
 use skovarnek_compare::refusal::{Refusal, TABLE};
 use skovarnek_compare::register::{Epoch, GENESIS, Office, Opening, Register};
@@ -43,8 +43,23 @@ fn text_shows(wanted: usize, text: &str) -> bool {
     true
 }
 
-/// The same of an example in text or in bytes, whose log gets the number.
+/// A slip gets this number at the end of a text, all of whose steps are accepted.
+fn slip_shows(wanted: usize, text: &str, hex: &str) {
+    let log = parse(&text.replace(';', "\n")).expect("a good text");
+    let bytes = write_log(&log.opening, &log.steps);
+    let accepted = vec![0; log.steps.len()];
+    assert_eq!(step_numbers(&report(&bytes)), accepted, "{text}");
+    let answer = slip_answer(&bytes, &from_hex(hex));
+    assert_eq!(answer, (wanted, 0), "{text}; slip: {hex}");
+}
+
+/// The same of an example in text, in bytes, whose log gets the number, or with a
+/// slip.
 fn shows(wanted: usize, example: &str) -> bool {
+    if let Some((text, hex)) = example.split_once("; slip:") {
+        slip_shows(wanted, text, hex);
+        return true;
+    }
     let Some(hex) = example.strip_prefix("hex: ") else {
         return text_shows(wanted, example);
     };

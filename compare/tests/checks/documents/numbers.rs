@@ -13,6 +13,7 @@ pub const NUMBERS: [&str; 4] = ["number", "word", "meaning", "example"];
 const QUORUM: &str = "crates/quorum/src/lib.rt";
 const REGISTER: &str = "crates/register/src/refusal.rt";
 const PACKED_LOG: &str = "crates/packed_log/src/refusal.rt";
+const SLIP: &str = "crates/slip/src/refusal.rt";
 
 /// Names and values of the constants of a file, as they are written there.
 fn constants(path: &str) -> Vec<(String, String)> {
@@ -36,7 +37,7 @@ fn value(written: &str) -> usize {
 
 /// Number and word of each constant, by number.
 fn numbers_of_the_code() -> Vec<(usize, String)> {
-    let constants = [constants(REGISTER), constants(PACKED_LOG)].concat();
+    let constants = [REGISTER, PACKED_LOG, SLIP].map(constants).concat();
     let word = |name: &str| name.to_lowercase().replace('_', " ");
     let pairs = constants.iter();
     let mut pairs: Vec<(usize, String)> = pairs

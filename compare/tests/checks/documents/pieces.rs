@@ -3,9 +3,10 @@
 use super::text_of;
 
 /// The programs' files that the pieces are from.
-const FILES: [&str; 3] = [
+const FILES: [&str; 4] = [
     "crates/maker_case/src/registers.rt",
     "crates/maker_case/src/logs.rt",
+    "crates/maker_case/src/slips.rt",
     "crates/reader_case/src/main.rt",
 ];
 

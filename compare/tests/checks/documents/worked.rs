@@ -21,7 +21,7 @@ fn lines() -> Vec<String> {
 }
 
 /// The bytes that a row of bits fills; the rest of it is left out.
-fn full_bytes(bits: &str) -> Vec<u8> {
+pub fn full_bytes(bits: &str) -> Vec<u8> {
     let bytes = bits.as_bytes().chunks_exact(8);
     let bit = |bit: &u8| bit - b'0';
     bytes
