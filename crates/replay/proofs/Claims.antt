@@ -57,7 +57,7 @@ unfolding ReadsHaveNoFault faultOf bodyOf choose
 reads-have-no-fault log c h = rw (h .opens, reads-body log (openingIn log .next) (c .steps) (h .steps))
 
 -- the places of a log are the moments of the run that it holds
-place-moment : (log : List ℕ) (held : RunOf log) (i : ℕ) → placeIn log i ≡ moment (held .run) i
+pub place-moment : (log : List ℕ) (held : RunOf log) (i : ℕ) → placeIn log i ≡ moment (held .run) i
 unfolding placeIn moment
 place-moment log held i = rw (held .opens, held .steps)
 

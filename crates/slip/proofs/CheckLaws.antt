@@ -1,20 +1,20 @@
 -- What the tests that the code makes of a slip say in the rules' terms.
 use Prim.Native.Nat.{ℕ, zero, suc, _+_, _*_, _-_, _^_, _≤_, _<_, min}
-use mathlib.Core.Path.{_≡_, refl, sym, ap, ap₂, _∙_}
-use mathlib.Core.Bool.{Bool, true, false, not}
+use mathlib.Core.Path.{_≡_, sym, ap, _∙_}
+use mathlib.Core.Bool.{Bool, true, not}
 use mathlib.Core.List.{List, [], _∷_, map}
 use native.Mathlib.Nat.{mul-suc, mul-le-mul}
 use native.Mathlib.Omega.{arith}
 use borrow.Author.Tests.{leb-true, ltb-true, ne-eqb}
 use lib.Dec.{ltb, leb}
-use lib.ListN.{length, getD}
-use Rattle.words.specs.Tests.{choose, both, either, all, every}
+use lib.ListN.{length}
+use Rattle.words.specs.Tests.{choose, both, all, every}
 use Rattle.words.specs.Digits.{inSet}
 use Rattle.words.specs.Refusals.{_⇒_, first}
 use Rattle.words.proofs.Tests.{both-left, both-right, every-both}
 use Rattle.quorum.specs.Enough.{enough}
 use Rattle.tables.specs.Chains.{chainBy}
-use Rattle.tables.specs.Searches.{viewIn, enoughIn}
+use Rattle.tables.specs.Searches.{viewIn}
 use Rattle.tables.proofs.Chains.{parent-in-lt}
 use Rattle.register.specs.declared.book.Book.{Book}
 use Rattle.register.specs.Books.{block}
@@ -23,10 +23,8 @@ use Rattle.register.specs.Views.{everSigned}
 use Rattle.register.specs.Chains.{chain, chainNotarisedBy}
 use Rattle.register.specs.Refusals.{consecutive, finalisesBy}
 use Rattle.register.proofs.Ranges.{Ranges}
-use Rattle.packed_log.specs.Bits.{field}
 use Rattle.packed_log.specs.Items.{padded}
 use Rattle.packed_log.proofs.BitsLaws.{field-lt}
-use Rattle.slip.specs.declared.checking.Checked.{Checked}
 use Rattle.slip.specs.Slips.{blockIn, place, marked, bitsDue, formed}
 use Rattle.slip.specs.Checking.{truly, markedEnough, checkTests, checkRefusal, checked}
 use Rattle.slip.specs.Rows.{mirror, everywhere, rowIn, truthIn, linkIn}

@@ -1,16 +1,16 @@
 -- Counting offices from the last one: a row's number has the bit of office q at place n - 1 - q.
-use Prim.Native.Nat.{ℕ, zero, suc, _+_, _*_, _-_, _≤_, _<_, _^_}
-use mathlib.Core.Path.{_≡_, refl, sym, ap, _∙_}
-use mathlib.Core.Bool.{Bool, true, false, not}
+use Prim.Native.Nat.{ℕ, zero, suc, _+_, _-_, _≤_, _<_, _^_}
+use mathlib.Core.Path.{_≡_, refl, ap, _∙_}
+use mathlib.Core.Bool.{Bool, true, not}
 use mathlib.Core.List.{List, [], _∷_, map}
 use native.Mathlib.Decide.{decLt}
 use native.Mathlib.Omega.{arith}
 use borrow.Author.Tests.{eq-eqb, eqb-true, lt-ltb}
-use lib.Dec.{eqb, ltb}
+use lib.Dec.{eqb}
 use lib.ListN.{length, getD}
-use Rattle.words.specs.Tests.{choose, both, either, all, any}
+use Rattle.words.specs.Tests.{choose, either, all}
 use Rattle.words.specs.Sums.{tally, unit, weigh}
-use Rattle.words.specs.Digits.{inSet, digit, within}
+use Rattle.words.specs.Digits.{inSet, within}
 use Rattle.words.proofs.Tests.{all-at, all-make, any-same, both-ways}
 use Rattle.words.proofs.Sums.{tally-ext}
 use Rattle.words.proofs.Digits.{digit-past}

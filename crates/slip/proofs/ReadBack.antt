@@ -11,11 +11,11 @@ use lib.Dec.{eqb}
 use lib.ListN.{length, getD, take, replicate, length-append, length-replicate, List·getD-append}
 use lib.Pow.{pow-pos}
 use lib.Seq.{sets-eq, take-at, take-all, drop-at, getD-append-add}
-use Rattle.words.specs.Tests.{choose, both, either, every, member}
+use Rattle.words.specs.Tests.{choose, either, every, member}
 use Rattle.words.specs.Sums.{tally}
 use Rattle.words.specs.Digits.{inSet}
 use Rattle.words.specs.Refusals.{first}
-use Rattle.words.proofs.Tests.{clash, decided, both-left, both-right, both-make, either-cases, either-left, either-right}
+use Rattle.words.proofs.Tests.{clash, both-left, both-right, both-make, either-cases}
 use Rattle.words.proofs.Tests.{implies, all-make, every-same}
 use Rattle.words.proofs.Sums.{tally-ext, tally-below}
 use Rattle.words.proofs.Clearing.{clear}
@@ -25,7 +25,7 @@ use Rattle.tables.proofs.Chains.{parent-in-lt, climb-induction}
 use Rattle.register.specs.declared.book.Book.{Book}
 use Rattle.register.specs.Books.{block, bookOf}
 use Rattle.register.specs.Tables.{parentOf}
-use Rattle.register.specs.Views.{signed, everSigned, signers, signerSet, notarised}
+use Rattle.register.specs.Views.{signed, signers, signerSet, notarised}
 use Rattle.register.specs.Chains.{chain, chainLength, chainNotarisedBy}
 use Rattle.register.specs.Refusals.{finalisesBy, finalises}
 use Rattle.register.proofs.Chains.{chain-genesis, chain-step, length-step}

@@ -1,28 +1,24 @@
 -- Rows of a slip: as bits, and as what the history or a view has for a block.
 use Prim.Native.Nat.{ℕ, zero, suc, _+_, _*_, _-_, _≤_, _<_, min}
-use mathlib.Core.Path.{_≡_, refl, sym, ap, _∙_}
+use mathlib.Core.Path.{_≡_, sym, ap, _∙_}
 use mathlib.Core.Bool.{Bool, true, false}
-use mathlib.Core.List.{List, [], _∷_, _++_, map}
+use mathlib.Core.List.{List, map}
 use native.Mathlib.Omega.{arith}
-use lib.Dec.{eqb}
-use lib.ListN.{length, getD, take, drop, replicate, length-take, length-drop, getD-replicate}
+use lib.ListN.{length, getD, take, drop, length-take, length-drop, getD-replicate}
 use lib.Seq.{getD-take, getD-drop}
-use Rattle.words.specs.Tests.{both, any}
+use Rattle.words.specs.Tests.{both}
 use Rattle.words.specs.Digits.{inSet, digit}
 use Rattle.words.proofs.Tests.{any-same}
 use Rattle.words.proofs.Digits.{in-set}
-use Rattle.tables.specs.Messages.{saysIn}
 use Rattle.tables.specs.Searches.{signedIn, signersIn, viewIn}
 use Rattle.tables.proofs.Views.{view-entry}
 use Rattle.register.specs.declared.book.Book.{Book}
 use Rattle.register.specs.Tables.{trusted}
 use Rattle.register.specs.Views.{signed, everSigned}
-use Rattle.register.specs.Promises.{Sizes}
-use Rattle.register.specs.Fitness.{fit}
 use Rattle.register.proofs.Ranges.{Ranges}
 use Rattle.register.proofs.Searching.{signed-in}
 use Rattle.packed_log.specs.Bits.{toBits, num, bits, field}
-use Rattle.packed_log.proofs.BitRows.{length-toBits, toBits-num}
+use Rattle.packed_log.proofs.BitRows.{toBits-num}
 use Rattle.packed_log.proofs.BitsLaws.{length-bits}
 use Rattle.slip.specs.Rows.{mirror, everywhere}
 use Rattle.slip.proofs.Mirrors.{signed-mirror}

@@ -3,7 +3,6 @@
 ghost use mathlib.Core.Path.{_≡_};
 ghost use mathlib.Core.List.{map};
 ghost use Prim.Native.Nat.{min};
-ghost use lib.ListN.{length};
 ghost use Rattle.words.specs.Lent.{lent};
 ghost use Rattle.tables.specs.Searches.{messages, viewIn};
 ghost use Rattle.slip.specs.Rows.{mirror, everywhere};

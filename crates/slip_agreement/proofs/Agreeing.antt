@@ -21,10 +21,12 @@ use Rattle.agreement.specs.Claim.{chainOf, finalChain, Begins}
 use Rattle.agreement.proofs.Backing.{backed-by}
 use Rattle.agreement.proofs.Safety.{Finalised, middle}
 use Rattle.agreement.proofs.Consequences.{finals-agree, office-final}
+use Rattle.replay.specs.Claims.{RunOf, LogsAreRuns}
+use Rattle.replay.proofs.Claims.{logs-are-runs, place-moment}
 use Rattle.slip.specs.declared.checking.Checked.{Checked}
 use Rattle.slip.specs.Slips.{blockIn, marked, formed}
 use Rattle.slip.specs.Checking.{truly, markedEnough, checkTests, checkRefusal, checked}
-use Rattle.slip_agreement.specs.Claims.{Accepts, SlipsAgree, SlipsNeverPart}
+use Rattle.slip_agreement.specs.Claims.{Accepts, SlipsAgree, SlipsNeverPart, SlipsOfLogsAgree}
 
 -- what the tests of an accepted slip tell
 pub record Passed (r : Book) (slip : List ℕ) : Type 0 where
@@ -86,3 +88,10 @@ pub slips-never-part : SlipsNeverPart
 unfolding SlipsNeverPart Begins chainOf
 slips-never-part run i j slip other answer another a b =
     finals-agree run i j (accepted-final run i slip answer a) (accepted-final run j other another b)
+
+-- the places of a log are the moments of the run that it reads as
+pub slips-of-logs-agree : SlipsOfLogsAgree
+unfolding SlipsOfLogsAgree SlipsAgree LogsAreRuns
+slips-of-logs-agree log reads i j slip answer p =
+    let held : RunOf log = logs-are-runs log reads in
+    rw (place-moment log held i, place-moment log held j) (slips-agree (held .run) i j slip answer p)

@@ -1,24 +1,23 @@
 -- A slip that is accepted stays so: blocks and messages are only added, so its bits mean what they meant, and what they say is still true.
-use Prim.Native.Nat.{ℕ, _+_, _*_, _-_, _<_, _≤_}
-use mathlib.Core.Path.{_≡_, refl, sym, ap, ap₂, _∙_, subst, subst⁻¹}
-use mathlib.Core.Bool.{Bool, true, false, not}
+use Prim.Native.Nat.{ℕ, _+_, _*_, _-_, _≤_}
+use mathlib.Core.Path.{_≡_, sym, ap, ap₂, _∙_, subst, subst⁻¹}
+use mathlib.Core.Bool.{true, false, not}
 use mathlib.Core.List.{List}
 use native.Mathlib.Omega.{arith}
 use borrow.Author.Tests.{le-ltb}
 use lib.Dec.{leb}
 use lib.ListN.{length, getD}
-use Rattle.words.specs.Tests.{choose, both, either, all, every, member}
+use Rattle.words.specs.Tests.{choose, both, all, every, member}
 use Rattle.words.specs.Sums.{tally}
 use Rattle.words.proofs.Tests.{both-left, both-right, both-make, implied, implies, all-at, all-make, every-same}
 use Rattle.words.proofs.Sums.{tally-ext}
 use Rattle.words.proofs.Turns.{skip, none}
 use Rattle.quorum.specs.Enough.{enough}
-use Rattle.register.specs.declared.sorts.Block.{Block}
 use Rattle.register.specs.declared.book.Book.{Book}
 use Rattle.register.specs.Books.{block, bookOf}
 use Rattle.register.specs.Tables.{parentOf, epochOf}
 use Rattle.register.specs.Views.{everSigned}
-use Rattle.register.specs.Chains.{chain, chainLength, chainNotarisedBy}
+use Rattle.register.specs.Chains.{chain}
 use Rattle.register.specs.Refusals.{consecutive, finalisesBy}
 use Rattle.register.specs.Fitness.{fit}
 use Rattle.register.specs.Promises.{RunsAreFit}
@@ -29,7 +28,7 @@ use Rattle.register.proofs.Makers.{runs-are-fit}
 use Rattle.agreement.proofs.Consequences.{onward}
 use Rattle.packed_log.specs.Bits.{bits}
 use Rattle.packed_log.specs.Items.{padded}
-use Rattle.slip.specs.Slips.{blockIn, place, marked, bitsDue, formed}
+use Rattle.slip.specs.Slips.{blockIn, marked, formed}
 use Rattle.slip.specs.Checking.{truly, markedEnough, checkRefusal, checked}
 use Rattle.slip_agreement.specs.Claims.{Accepts, SlipsStay}
 use Rattle.slip_agreement.proofs.Agreeing.{Passed, passed, answer-is}

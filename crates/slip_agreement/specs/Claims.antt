@@ -9,6 +9,8 @@ use Rattle.register.specs.declared.table.Register.{Register}
 use Rattle.register.specs.Books.{bookOf}
 use Rattle.register.specs.Runs.{Run, moment}
 use Rattle.agreement.specs.Claim.{chainOf, finalChain, Trusted, Begins}
+use Rattle.replay.specs.Bodies.{faultOf}
+use Rattle.replay.specs.Claims.{placeIn}
 use Rattle.slip.specs.Checking.{checked}
 
 -- the register accepts the slip, whose answer is that block
@@ -43,3 +45,12 @@ SlipsStay =
     → i ≤ j
     → Accepts (moment run i) slip answer
     → Accepts (moment run j) slip answer
+
+-- Of every log that reads: slips agree with final chains, at every two places of it.
+unfoldable pub SlipsOfLogsAgree : Type 0
+SlipsOfLogsAgree =
+    (log : List ℕ) → faultOf log ≡ 0
+    → (i j : ℕ) (slip : List ℕ) (answer : Block) (p : Office)
+    → Accepts (placeIn log i) slip answer
+    → Trusted (placeIn log j) p
+    → OneBegins (chainOf (placeIn log i) answer) (finalChain (placeIn log j) p)

@@ -1,5 +1,4 @@
 -- `words::is_within` asks whether the set adds anybody to the other.
-use borrow.Author.Needs.{needs}
 use Rattle.words.proofs.Digits.{within-or}
 use Rattle.words.proofs.is_within.Statement.{statement}
 use Rattle.words.proofs.is_within.Tie as tie

@@ -1,9 +1,6 @@
 -- `slip::checking::marks_refusal`: at each turn the marks on the blocks passed are in the history, and it is known whether those blocks are links.
 use borrow.Author.Needs.{needs}
-use Prim.Native.Nat.{ℕ, _≤_}
 use mathlib.Core.Path.{_≡_, sym, _∙_}
-use mathlib.Core.Bool.{true, false}
-use mathlib.Core.List.{List}
 use native.Mathlib.Omega.{arith}
 use borrow.Author.Tests.{not-true, not-false}
 use Rattle.words.specs.Tests.{choose}
