@@ -1,4 +1,6 @@
 // Checks a log, from the file that its argument names or from standard input, and prints the report.
+#![tactic(auto)]
+
 mod input;
 mod output;
 

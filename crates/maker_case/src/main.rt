@@ -1,4 +1,6 @@
 // What README.md shows to makers in Rattle, run and printed: a register opened, stepped and read; a log written, read and run; its report; slips.
+#![tactic(auto)]
+
 mod logs;
 mod registers;
 mod slips;

@@ -1,5 +1,7 @@
 // Writes logs, prints their bytes, reads them back and prints their items: an opening with no steps, and the worked case of the rules.
 // Then it tries what the writer and the reader refuse.
+#![tactic(auto)]
+
 use libc::STDOUT_FILENO;
 use packed_log::{Item, Wrote, read_item, read_opening, write_end, write_opening, write_step};
 use register::{Block, Epoch, Kind, Message, Office, Step};

@@ -15,7 +15,7 @@ use register::Step;
 pub(crate) const LONGEST: usize = 65536;
 
 // What stands at a position of a log: a step with its fields, the end, or a refusal.
-#[derive(Drop)]
+#[derive(Clone, Copy)]
 pub enum Item {
     Step(Step),
     End,
@@ -23,7 +23,7 @@ pub enum Item {
 }
 
 // An item and the position behind it.
-#[derive(Drop)]
+#[derive(Clone, Copy)]
 pub struct Read {
     pub item: Item,
     pub next: usize,
@@ -31,7 +31,7 @@ pub struct Read {
 
 // An item without a step's fields: the kind of the step, 0 for the end and for a refusal; the refusal, 0 where there is none; and the
 // position behind the item.
-#[derive(Drop)]
+#[derive(Clone, Copy)]
 pub struct Skipped {
     pub kind: u8,
     pub refusal: u8,

@@ -1,4 +1,6 @@
 // The packed log: its bits, its items, and the reading and writing of both.
+#![tactic(auto)]
+
 mod bits;
 mod field;
 pub mod item;

@@ -21,7 +21,7 @@ pub(crate) const LEADER_WIDTH: usize = 5;
 
 // What reading an opening gives: the fresh register, 0 and the position behind the last leader; or a register without offices, the
 // refusal and position 0.
-#[derive(Drop)]
+#[derive(Clone, Copy)]
 pub struct Opening {
     pub register: Register,
     pub refusal: u8,

@@ -6,7 +6,7 @@ ghost use Rattle.packed_log.specs.Widths.{kinds};
 use register::{Block, Epoch, Kind, Message, Office, Step};
 
 // The number of a kind and the numbers of its fields, 0 in the columns that the kind has no field for.
-#[derive(Drop)]
+#[derive(Clone, Copy)]
 pub(crate) struct Row {
     pub kind: u8,
     pub first: u16,

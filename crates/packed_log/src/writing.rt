@@ -13,7 +13,7 @@ use crate::widths::{KIND_WIDTH, due_of, width_of};
 use register::Step;
 
 // What a call of the writer gives: 0 and the position behind what it wrote, or the refusal and the position that it was given.
-#[derive(Drop)]
+#[derive(Clone, Copy)]
 pub struct Wrote {
     pub refusal: u8,
     pub next: usize,

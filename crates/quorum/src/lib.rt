@@ -1,4 +1,6 @@
 // Which numbers of offices will do: signers that are enough, and openings that are not refused.
+#![tactic(auto)]
+
 ghost use Rattle.std.specs.Prelude.{◌≡◌};
 ghost use Rattle.words.specs.Sums.{tally};
 ghost use Rattle.words.specs.Digits.{in_set};
@@ -15,7 +17,7 @@ pub const STRAY_LEADER: u8 = 3;
 pub const THIRD: u8 = 4;
 
 // The count of a block's signers: whether they are enough, and how many they are in either case.
-#[derive(Drop)]
+#[derive(Clone, Copy)]
 pub struct SignerCount {
     pub enough: bool,
     pub signers: u8,

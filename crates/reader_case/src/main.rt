@@ -1,4 +1,6 @@
 // Reads whole logs through a reader, item by item, and prints how many steps each has: `count_steps` is there to copy from.
+#![tactic(auto)]
+
 ghost use Rattle.std.specs.Prelude.{◌≡◌, ◌≤◌};
 ghost use Rattle.words.specs.Lent.{lent};
 ghost use Rattle.reader_case.specs.Counts.{opened, counted, count_of};

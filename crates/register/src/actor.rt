@@ -11,7 +11,7 @@ use crate::step::Step;
 use crate::table::OfficeState;
 
 // The acting office: its place in the table of offices, what it holds, and a block whose chain is known to be notarised in its view.
-#[derive(Drop)]
+#[derive(Clone, Copy)]
 pub struct Actor {
     pub at: usize,
     pub state: OfficeState,

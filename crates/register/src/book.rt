@@ -21,7 +21,7 @@ use crate::sorts::{Block, Epoch, Office};
 use crate::table::{OfficeState, Register};
 
 // A register in plain numbers: its fields are those of the register.
-#[derive(Drop)]
+#[derive(Clone, Copy)]
 pub struct Book {
     pub n: u8,
     pub trust: u32,
@@ -42,7 +42,7 @@ pub struct Book {
 }
 
 // The single numbers of a book.
-#[derive(Drop)]
+#[derive(Clone, Copy)]
 pub struct Scalars {
     pub n: u8,
     pub trust: u32,

@@ -17,14 +17,14 @@ use crate::sorts::{Block, Epoch, Message, Office};
 use crate::table::{Header, OfficeState};
 
 // The current epoch, and the offices that have acted in it.
-#[derive(Drop)]
+#[derive(Clone, Copy)]
 pub struct Clock {
     pub epoch: Epoch,
     pub acted: u32,
 }
 
 // The last block, and an entry of the table of blocks.
-#[derive(Drop)]
+#[derive(Clone, Copy)]
 pub struct BlockEntry {
     pub last: Block,
     pub at: usize,
@@ -32,7 +32,7 @@ pub struct BlockEntry {
 }
 
 // How many messages there are, and an entry of the table of messages, with the word of its places.
-#[derive(Drop)]
+#[derive(Clone, Copy)]
 pub struct MessageEntry {
     pub count: u16,
     pub at: usize,
@@ -43,21 +43,21 @@ pub struct MessageEntry {
 }
 
 // The word of a message's places; it is written after the entry of the table of messages.
-#[derive(Drop)]
+#[derive(Clone, Copy)]
 pub struct PlaceEntry {
     pub at: usize,
     pub place: u64,
 }
 
 // What an office holds.
-#[derive(Drop)]
+#[derive(Clone, Copy)]
 pub struct OfficeEntry {
     pub at: usize,
     pub state: OfficeState,
 }
 
 // 0 or the refusal, and the value.
-#[derive(Drop)]
+#[derive(Clone, Copy)]
 pub struct Answer {
     pub value: u16,
     pub refusal: u8,
@@ -65,7 +65,7 @@ pub struct Answer {
 
 // The answer, with its single byte, stands last: before a wider field it would share a word with padding, and a copy of that word would wait for the
 // byte.
-#[derive(Drop)]
+#[derive(Clone, Copy)]
 pub struct Change {
     pub clock: Clock,
     pub block: BlockEntry,

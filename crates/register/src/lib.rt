@@ -1,4 +1,6 @@
 // The shared register of plots: the offices' numbers, the register, its opening and the steps that change it.
+#![tactic(auto)]
+
 mod actor;
 mod book;
 mod change;

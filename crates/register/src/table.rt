@@ -2,7 +2,7 @@ use crate::limits::{BATCH, BLOCKS, EPOCHS, MESSAGES, OFFICES};
 use crate::sorts::{Block, Epoch, Kind, Office};
 
 // What a block is made of.
-#[derive(Drop)]
+#[derive(Clone, Copy)]
 pub struct Header {
     pub parent: Block,
     pub epoch: Epoch,
@@ -10,7 +10,7 @@ pub struct Header {
 }
 
 // What a message says.
-#[derive(Drop)]
+#[derive(Clone, Copy)]
 pub struct Content {
     pub kind: Kind,
     pub signer: Office,
@@ -18,13 +18,13 @@ pub struct Content {
 }
 
 // What one office holds beside its view and its mark: its final block.
-#[derive(Drop)]
+#[derive(Clone, Copy)]
 pub struct OfficeState {
     pub finalised: Block,
 }
 
 // The register that the offices share. Any values make a register that each call takes.
-#[derive(Drop)]
+#[derive(Clone, Copy)]
 pub struct Register {
     // how many offices there are
     pub n: u8,
@@ -57,14 +57,14 @@ pub struct Register {
 }
 
 // What opening gives: the fresh register and 0, or a register without offices and the refusal.
-#[derive(Drop)]
+#[derive(Clone, Copy)]
 pub struct Opened {
     pub register: Register,
     pub refusal: u8,
 }
 
 // What a step gives: the register after it, 0 or the refusal, and the value.
-#[derive(Drop)]
+#[derive(Clone, Copy)]
 pub struct Stepped {
     pub register: Register,
     pub refusal: u8,
@@ -72,7 +72,7 @@ pub struct Stepped {
 }
 
 // What a batch of steps gives: the register after them, and the refusal and the value of each at its place.
-#[derive(Drop)]
+#[derive(Clone, Copy)]
 pub struct Ran {
     pub register: Register,
     pub refusals: [u8; BATCH],
@@ -80,7 +80,7 @@ pub struct Ran {
 }
 
 // What the notarised test tells of a block in an office's view: whether it is notarised there, and how many different offices signed it.
-#[derive(Drop)]
+#[derive(Clone, Copy)]
 pub struct Notarised {
     pub holds: bool,
     pub signers: u8,

@@ -36,13 +36,13 @@ pub fn fault_of(log: &[u8], opening: u8, next: usize) -> u8
 }
 
 // A place for one step.
-#[derive(Drop)]
+#[derive(Clone, Copy)]
 pub struct Slot {
     pub step: Step,
 }
 
 // A part of a log's steps, in the first `count` slots, and the position behind them.
-#[derive(Drop)]
+#[derive(Clone, Copy)]
 pub struct Part {
     pub slots: [Slot; BATCH],
     pub count: usize,

@@ -11,7 +11,7 @@ use register::Register;
 
 // What running a log gives: the register behind its last step and 0; or, where the log does not read, a register without offices and the number
 // that the log is refused with.
-#[derive(Drop)]
+#[derive(Clone, Copy)]
 pub struct Ended {
     pub register: Register,
     pub refusal: u8,

@@ -1,4 +1,6 @@
 // What a log reads as, and its run.
+#![tactic(auto)]
+
 pub mod body;
 mod ending;
 

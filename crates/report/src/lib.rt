@@ -1,4 +1,6 @@
 // The report of a log.
+#![tactic(auto)]
+
 mod checking;
 mod lines;
 mod run;

@@ -1,4 +1,6 @@
 // The check as a call for C: see include/skovarnek.h.
+#![tactic(auto)]
+
 ghost use Rattle.std.specs.Prelude.{◌≡◌, ◌≤◌, length};
 ghost use Rattle.report.specs.Reports.{report_of, report_bound, given_length, buffer_after};
 

@@ -1,4 +1,6 @@
 // Slips as calls for C: see include/skovarnek_slip.h.
+#![tactic(auto)]
+
 ghost use Rattle.std.specs.Prelude.{◌≡◌, ◌%◌, ◌≤◌};
 ghost use Rattle.skovarnek_slip.specs.Answers.{answer_of, slip_checked, slip_written, slip_after};
 

@@ -23,7 +23,7 @@ use register::{Block, Book, Register};
 use tables::View;
 
 // What checking a slip gives: 0 and the parent of the block that it names, or the refusal and genesis.
-#[derive(Drop)]
+#[derive(Clone, Copy)]
 pub struct Checked {
     pub refusal: u8,
     pub block: Block,

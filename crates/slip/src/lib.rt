@@ -1,4 +1,6 @@
 // Slips, for whoever holds no office: a slip names a block and says who signed each block of its chain, and whoever has the register can check it.
+#![tactic(auto)]
+
 mod checking;
 mod form;
 pub mod refusal;

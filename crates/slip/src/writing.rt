@@ -16,7 +16,7 @@ use register::{Block, Book, Office, Register};
 use tables::View;
 
 // What writing a slip gives: 0 and its length in bytes, or the refusal and 0.
-#[derive(Drop)]
+#[derive(Clone, Copy)]
 pub struct Written {
     pub refusal: u8,
     pub length: usize,

@@ -1,5 +1,7 @@
 // For measuring only: slips checked and written many times over, with the log read and run once. Of 1 to 2,147,483,647 turns the last answer, and what is then
 // in the buffer, are proved to be those of a single call of skovarnek_slip; makers make that call.
+#![tactic(auto)]
+
 ghost use Rattle.std.specs.Prelude.{◌≡◌, ◌^◌, ◌<◌, ◌≤◌, length};
 ghost use Rattle.words.specs.Lent.{lent, given};
 ghost use Rattle.replay.specs.Endings.{end_of};

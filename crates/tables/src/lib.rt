@@ -1,5 +1,7 @@
 // What the columns of the register's tables say: of one office, block or message, of an office's view, and of chains. A column is lent whole;
 // no function here knows the register. A count of more than 1,024 messages or 32 offices counts as that.
+#![tactic(auto)]
+
 mod chain;
 mod limits;
 mod scan;

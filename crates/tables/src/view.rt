@@ -86,7 +86,7 @@ fn chunk_signers<'a>(
 }
 
 // What the view has for one block, where it is known.
-#[derive(Drop)]
+#[derive(Clone, Copy)]
 pub(crate) struct Single {
     pub known: bool,
     pub set: u32,

@@ -1,5 +1,7 @@
 // Runs the worked case of the rules through the step methods and prints its report, and who and how many signed its blocks in whose view; then
 // tries registers that are unfit in one way each, and an opening with trust bits from n up.
+#![tactic(auto)]
+
 use libc::STDOUT_FILENO;
 use register::{Block, Epoch, Message, Notarised, Office, OfficeState, Register, Stepped};
 

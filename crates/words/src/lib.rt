@@ -1,5 +1,7 @@
 // Words with one digit per office: a set of offices in base 2, the stages of a message in base 4; and the test of a range.
 // No function asks anything of its caller: an office past the last digit of a word reads as 0, and setting it leaves the word as it is.
+#![tactic(auto)]
+
 ghost use Rattle.std.specs.Prelude.{◌≡◌, ◌%◌, ◌^◌, min, eqb};
 ghost use Rattle.words.specs.Tests.{between};
 ghost use Rattle.words.specs.Digits.{digit, fill, in_set, with_member, within, with_stage};
