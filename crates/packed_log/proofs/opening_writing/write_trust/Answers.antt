@@ -1,0 +1,42 @@
+use borrow.Author.Rules.{rules}
+use Prim.Native.Nat.{◌-◌, ◌<◌}
+use mathlib.Core.Path.{◌≡◌, sym, ap, ◌∙◌}
+use native.Mathlib.Omega.{arith}
+use lib.ListN.{length}
+use Rattle.words.proofs.Digits.{digit_lt}
+use Rattle.packed_log.proofs.opening_writing.write_trust.Goals as goal
+use Rattle.packed_log.proofs.opening_writing.write_trust.Goals.{After-bit, At-loop-q}
+
+-- a trust bit is below 2
+bit : (c : After-bit) → c.bit.result < 2
+bit c = rw c.bit.ensures (digit_lt 2 _ _ (omega arith))
+
+-- the buffer keeps its length
+long : (c : At-loop-q) → length c.loop-q.buf ≡ length c.args.buf.now
+long c = ap length c.loop-q.invariant.1 ∙ length_put _ _ _
+
+pub loop-q-init : goal.loop-q-init
+unfolding office_bits
+loop-q-init c = (search rules, sym (put_none _ _ (λ i. (c.slice_known-1.given i).fits)))
+
+pub overflow_cast-bit : goal.overflow_cast-bit
+unfolding office_bits
+overflow_cast-bit c = omega (arith, bit (goal.at.overflow_cast-bit c).After-bit)
+
+pub write_bits-requires : goal.write_bits-requires
+unfolding office_bits
+write_bits-requires c =
+    (omega arith, omega (arith, long (goal.at.write_bits-requires c).At-loop-q), bit (goal.at.write_bits-requires c).After-bit)
+
+pub loop-q-preserved : goal.loop-q-preserved
+unfolding office_bits
+loop-q-preserved c = (search rules, search next_trust_bit depth 2)
+
+pub shape_of-buf : goal.shape_of-buf
+unfolding office_bits
+shape_of-buf c = long (goal.at.shape_of-buf c).At-loop-q
+
+pub returns : goal.returns
+returns c =
+    let end : c.loop-q.q ≡ c.args.n = omega arith in
+    c.loop-q.invariant.1 ∙ rw end

@@ -1,0 +1,10 @@
+-- `parent_numbers`: after i turns the first i entries are copied.
+use Rattle.register.specs.Books.{block_number}
+use Rattle.register.proofs.Copying.{Copied, left}
+use Rattle.register.proofs.book.parent_numbers.Given as goal
+
+abbrev pub invariant-loop-i : goal.invariant-loop-i
+invariant-loop-i l = Copied block_number l.typed l.numbers l.i
+
+abbrev pub decreases-loop-i : goal.decreases-loop-i
+decreases-loop-i l = left block_number l.typed l.i

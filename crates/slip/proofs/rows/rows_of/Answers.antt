@@ -1,0 +1,5 @@
+-- `slip::rows::rows_of` gathers the view with the signers counted from the last one.
+use Rattle.slip.proofs.rows.rows_of.Goals as goal
+
+pub returns : goal.returns
+returns c = rw (← c.mirrored_all-bits.ensures) c.view_of.ensures

@@ -1,0 +1,18 @@
+-- `slip::writing::lay_slip`: the pad is laid, then each row in front of what was laid before, and at last the block's number.
+use Prim.Native.Nat.{ℕ, ◌*◌, ◌-◌}
+use mathlib.Core.Path.{◌≡◌}
+use mathlib.Core.List.{List}
+use lib.ListN.{length}
+use Rattle.tables.specs.Blocks.{parent_in}
+use Rattle.packed_log.specs.Fields.{with_field}
+use Rattle.slip.proofs.WritingLaws.{Due, Laid}
+use Rattle.slip.proofs.writing.lay_slip.Given as goal
+
+-- the slice as it was lent is not at hand in the loop: this holds of each that is as is required, and that the pad was laid over
+abbrev pub invariant-loop-at : goal.invariant-loop-at
+invariant-loop-at l =
+    (l : List ℕ) → Due l (parent_in l.parents l.last) l.n l.b l.due → l.initial.slip ≡ with_field l l.due (8 * length l - l.due) 0
+    → Laid l l.rows (parent_in l.parents l.last) l.n l.b l.due l.slip l.end l.at
+
+abbrev pub decreases-loop-at : goal.decreases-loop-at
+decreases-loop-at l = l.at

@@ -1,0 +1,13 @@
+-- `tables::scan::parent_at` names the entry of a block that has been made, where the entry is smaller.
+use Rattle.words.specs.Tests.{choose}
+use Rattle.words.proofs.Tests.{and_both}
+use Rattle.tables.specs.Blocks.{parent_in}
+use Rattle.tables.proofs.scan.parent_at.Goals as goal
+
+pub returns-then-is_made-parent : goal.returns-then-is_made-parent
+unfolding parent_in choose
+returns-then-is_made-parent c = rw (← c.is_made.ensures, ← and_both, c.if-is_made-parent.true)
+
+pub returns : goal.returns
+unfolding parent_in choose
+returns c = rw (← c.is_made.ensures, ← and_both, c.if-is_made-parent.false)
