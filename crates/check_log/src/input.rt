@@ -1,11 +1,10 @@
 // What the program is given: its argument, and the bytes of a log.
 ghost use Rattle.std.specs.Prelude.{◌≡◌, true, ◌∷◌, [], ◌≤◌, length};
-ghost use Rattle.words.specs.Lent.{lent, given};
 
 // Whether an argument asks for the line of use: it is `--help`.
 pub fn asks_for_usage(argument: &[u8]) -> bool
-    ensures { (result ≡ true → lent argument ≡ 45 ∷ 45 ∷ 104 ∷ 101 ∷ 108 ∷ 112 ∷ [])
-        × (lent argument ≡ 45 ∷ 45 ∷ 104 ∷ 101 ∷ 108 ∷ 112 ∷ [] → result ≡ true) }
+    ensures { (result ≡ true → argument.now ≡ 45 ∷ 45 ∷ 104 ∷ 101 ∷ 108 ∷ 112 ∷ [])
+        × (argument.now ≡ 45 ∷ 45 ∷ 104 ∷ 101 ∷ 108 ∷ 112 ∷ [] → result ≡ true) }
 {
     check::same(argument, b"--help")
 }
@@ -19,7 +18,7 @@ pub struct Input {
 
 // Reads an open file to its end, or as far as there is room.
 pub fn read_input(file: i32, log: &mut [u8]) -> Input
-    ensures { (result.size ≤ length (given log)) × (length (given log) ≡ length (lent log)) }
+    ensures { (result.size ≤ length log.new) × (length log.new ≡ length log.old) }
 {
     let mut size = 0;
     while size < log.len() {

@@ -5,7 +5,6 @@ mod input;
 mod output;
 
 ghost use Rattle.std.specs.Prelude.{◌≡◌, ◌≤◌, ◌<◌, length, take, replicate};
-ghost use Rattle.words.specs.Lent.{lent, given};
 ghost use Rattle.report.specs.Reports.{report_of, longest_report, given_length, buffer_after};
 
 use input::{asks_for_usage, read_input};
@@ -36,10 +35,10 @@ fn report_buffer() -> [u8; REPORT_ROOM]
 // Checks the first bytes of a buffer that has room for more than a log may have. The report fits, and it is what stands in front in its buffer then.
 fn check_first(log: &[u8], size: usize, report: &mut [u8]) -> usize
     requires { (size ≤ length log.now) × (65536 < length log.now) × (longest_report ≤ length report.old) }
-    ensures { (result ≡ given_length (take size (lent log)) (lent report))
-        × (given report ≡ buffer_after (take size (lent log)) (lent report))
-        × (take result (given report) ≡ report_of (take size (lent log)))
-        × (result ≤ length (given report)) }
+    ensures { (result ≡ given_length (take size log.now) report.old)
+        × (report.new ≡ buffer_after (take size log.now) report.old)
+        × (take result report.new ≡ report_of (take size log.now))
+        × (result ≤ length report.new) }
 {
     check(&log[..size], report)
 }

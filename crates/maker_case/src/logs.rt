@@ -1,6 +1,5 @@
 // A log: written and read, and its report.
 ghost use Rattle.std.specs.Prelude.{◌≡◌};
-ghost use Rattle.words.specs.Lent.{lent, given};
 ghost use Rattle.report.specs.Reports.{given_length, buffer_after};
 
 use packed_log::{Read, Wrote, read_item, read_opening, write_end, write_opening, write_step};
@@ -23,7 +22,7 @@ pub fn first_item(log: &[u8]) -> Read {
 
 // The whole check, log bytes to report bytes.
 pub fn whole_check(log: &[u8], report: &mut [u8]) -> usize
-    ensures { (result ≡ given_length (lent log) (lent report)) × (given report ≡ buffer_after (lent log) (lent report)) }
+    ensures { (result ≡ given_length log.now report.old) × (report.new ≡ buffer_after log.now report.old) }
 {
     check(log, report)
 }

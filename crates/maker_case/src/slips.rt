@@ -1,6 +1,5 @@
 // Slips at the end of a log: written and checked.
 ghost use Rattle.std.specs.Prelude.{◌≡◌};
-ghost use Rattle.words.specs.Lent.{lent, given};
 ghost use Rattle.register.specs.Books.{book_of};
 ghost use Rattle.replay.specs.Endings.{end_of};
 ghost use Rattle.slip.specs.Checking.{checked};
@@ -12,8 +11,8 @@ use slip::{Checked, Written, check_slip, write_slip};
 
 // Writes a slip about a block, from an office's view at the end of a log.
 pub fn write_deed(log: &[u8], office: Office, b: Block, buf: &mut [u8]) -> Written
-    ensures { (result ≡ written (book_of (end_of (lent log)).register) office.0 b.0 (lent buf))
-        × (given buf ≡ buffer_after (book_of (end_of (lent log)).register) office.0 b.0 (lent buf)) }
+    ensures { (result ≡ written (book_of (end_of log.now).register) office.0 b.0 buf.old)
+        × (buf.new ≡ buffer_after (book_of (end_of log.now).register) office.0 b.0 buf.old) }
 {
     let end = run_log(log);
     let register = end.register;
@@ -22,7 +21,7 @@ pub fn write_deed(log: &[u8], office: Office, b: Block, buf: &mut [u8]) -> Writt
 
 // Checks a slip at the end of a log: the block that it proves final, or why it is refused.
 pub fn check_deed(log: &[u8], slip: &[u8]) -> Checked
-    ensures { result ≡ checked (book_of (end_of (lent log)).register) (lent slip) }
+    ensures { result ≡ checked (book_of (end_of log.now).register) slip.now }
 {
     let end = run_log(log);
     let register = end.register;

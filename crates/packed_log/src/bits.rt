@@ -1,6 +1,5 @@
 // Fields of a log, most significant bit first: reading one, and writing one into a buffer.
 ghost use Rattle.std.specs.Prelude.{◌≡◌, ◌+◌, ◌*◌, ◌-◌, ◌/◌, ◌%◌, ◌^◌, ◌≤◌, ◌<◌, min, length, get_or, set};
-ghost use Rattle.words.specs.Lent.{lent, given};
 ghost use Rattle.packed_log.specs.Bits.{to_bits, field, put};
 ghost use Rattle.packed_log.specs.Windows.{window, over};
 
@@ -23,7 +22,7 @@ pub(crate) fn left_from(total: usize, at: usize) -> usize
 
 // Byte i of the log; 0 past its end.
 fn byte_at(log: &[u8], i: usize) -> u32
-    ensures { (result ≡ get_or (lent log) i 0) × (result < 256) }
+    ensures { (result ≡ get_or log.now i 0) × (result < 256) }
 {
     if i < log.len() {
         return log[i] as u32;
@@ -35,7 +34,7 @@ fn byte_at(log: &[u8], i: usize) -> u32
 // first one on.
 fn window_at(log: &[u8], i: usize) -> u32
     requires { i ≤ 65536 }
-    ensures { (result ≡ window (lent log) i) × (result < 2 ^ 24) }
+    ensures { (result ≡ window log.now i) × (result < 2 ^ 24) }
 {
     byte_at(log, i) * 65536 + byte_at(log, i + 1) * 256 + byte_at(log, i + 2)
 }
@@ -51,7 +50,7 @@ pub(crate) fn part_of(number: u32, behind: usize, width: usize) -> u16
 // The number in the `width` bits from position `at` on, 0 where the width is 0.
 pub(crate) fn read_bits(log: &[u8], at: usize, width: usize) -> u16
     requires { (width ≤ 16) × (at + width ≤ 8 * length log.now) × (length log.now ≤ 65536) }
-    ensures { (result ≡ field (lent log) at width) × (result < 2 ^ width) }
+    ensures { (result ≡ field log.now at width) × (result < 2 ^ width) }
 {
     if width == 0 {
         return 0;
@@ -62,7 +61,7 @@ pub(crate) fn read_bits(log: &[u8], at: usize, width: usize) -> u16
 // Byte i of the buffer becomes b; past its end no byte does.
 fn store(buf: &mut [u8], i: usize, b: u32)
     requires { b < 256 }
-    ensures { given buf ≡ set (lent buf) i b }
+    ensures { buf.new ≡ set buf.old i b }
 {
     if i < buf.len() {
         buf[i] = b as u8;
@@ -81,7 +80,7 @@ fn laid_over(bits: u32, behind: usize, width: usize, value: u16) -> u32
 // Writes a field that starts within the first byte of the buffer.
 fn write_front(buf: &mut [u8], at: usize, width: usize, value: u16)
     requires { (at < 8) × (width ≤ 16) × (at + width ≤ 8 * length buf.old) × (value < 2 ^ width) }
-    ensures { given buf ≡ put (lent buf) at (to_bits width value) }
+    ensures { buf.new ≡ put buf.old at (to_bits width value) }
 {
     let bits = laid_over(window_at(buf, 0), 24 - at - width, width, value);
     store(buf, 0, bits / 65536);
@@ -93,7 +92,7 @@ fn write_front(buf: &mut [u8], at: usize, width: usize, value: u16)
 // first unfinished byte.
 pub(crate) fn write_bits(buf: &mut [u8], at: usize, width: usize, value: u16)
     requires { (width ≤ 16) × (at + width ≤ 8 * length buf.old) × (value < 2 ^ width) }
-    ensures { given buf ≡ put (lent buf) at (to_bits width value) }
+    ensures { buf.new ≡ put buf.old at (to_bits width value) }
 {
     if width == 0 {
         return;

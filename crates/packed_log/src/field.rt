@@ -1,6 +1,5 @@
 // Fields of up to 32 bits at any position of some bytes, for whoever packs more than logs.
 ghost use Rattle.std.specs.Prelude.{◌≡◌};
-ghost use Rattle.words.specs.Lent.{lent, given};
 ghost use Rattle.packed_log.specs.Fields.{there, field_at, with_field};
 
 use crate::bits::{part_of, read_bits, shorter, write_bits};
@@ -14,7 +13,7 @@ const WIDEST: usize = 32;
 
 // The `width` bits from position `at` on are there.
 fn is_there(bytes: &[u8], at: usize, width: usize) -> bool
-    ensures { result ≡ there (lent bytes) at width }
+    ensures { result ≡ there bytes.now at width }
 {
     if LONGEST < bytes.len() {
         return false;
@@ -28,7 +27,7 @@ fn is_there(bytes: &[u8], at: usize, width: usize) -> bool
 
 // The number in the `width` bits from position `at` on; 0 where they are not there.
 pub fn read_field(bytes: &[u8], at: usize, width: usize) -> u32
-    ensures { result ≡ field_at (lent bytes) at width }
+    ensures { result ≡ field_at bytes.now at width }
 {
     if !is_there(bytes, at, width) {
         return 0;
@@ -40,7 +39,7 @@ pub fn read_field(bytes: &[u8], at: usize, width: usize) -> u32
 
 // Writes the `width` lowest bits of the value at position `at`; all other bits stay, and all bits where these are not there.
 pub fn write_field(buf: &mut [u8], at: usize, width: usize, value: u32)
-    ensures { given buf ≡ with_field (lent buf) at width value }
+    ensures { buf.new ≡ with_field buf.old at width value }
 {
     if !is_there(buf, at, width) {
         return;

@@ -1,6 +1,5 @@
 // Reading a log item by item.
 ghost use Rattle.std.specs.Prelude.{◌≡◌, ◌+◌, ◌*◌, ◌≤◌, ◌<◌, length};
-ghost use Rattle.words.specs.Lent.{lent};
 ghost use Rattle.words.specs.Tests.{choose};
 ghost use Rattle.packed_log.specs.Widths.{kinds, due};
 ghost use Rattle.packed_log.specs.Items.{left, kind_at, row_at, padded, skipped, skipped_at, item_at, numbers, numbers_at};
@@ -41,7 +40,7 @@ pub struct Skipped {
 // How many bits are left from position `at` on; 0 at the log's end and past it.
 pub(crate) fn left_of(log: &[u8], at: usize) -> usize
     requires { length log.now ≤ 65536 }
-    ensures { result ≡ left (lent log) at }
+    ensures { result ≡ left log.now at }
 {
     left_from(8 * log.len(), at)
 }
@@ -49,7 +48,7 @@ pub(crate) fn left_of(log: &[u8], at: usize) -> usize
 // The row whose kind has been read, with its fields from position `at` on.
 fn read_row(log: &[u8], kind: u8, at: usize) -> Row
     requires { (kind < kinds) × (at + due kind ≤ 8 * length log.now) × (length log.now ≤ 65536) }
-    ensures { result ≡ row_at (lent log) kind at }
+    ensures { result ≡ row_at log.now kind at }
 {
     let w0 = width_of(kind, 0);
     let w1 = width_of(kind, 1);
@@ -70,7 +69,7 @@ fn read_row(log: &[u8], kind: u8, at: usize) -> Row
 // From position `at` to the byte's end there are zero bits, and no byte stands behind.
 fn is_padded(log: &[u8], at: usize) -> bool
     requires { (at ≤ 8 * length log.now) × (length log.now ≤ 65536) }
-    ensures { result ≡ padded (lent log) at }
+    ensures { result ≡ padded log.now at }
 {
     let rest = left_of(log, at);
     if rest < 8 {
@@ -93,7 +92,7 @@ fn refused(number: u8, at: usize) -> Skipped
 // The end, whose kind stands at position `at`: it takes the rest of the log, or is refused.
 fn skip_end(log: &[u8], at: usize) -> Skipped
     requires { (at + 4 ≤ 8 * length log.now) × (length log.now ≤ 65536) }
-    ensures { result ≡ choose (padded (lent log) (at + 4)) (skipped 0 0 (8 * length (lent log))) (skipped 0 29 at) }
+    ensures { result ≡ choose (padded log.now (at + 4)) (skipped 0 0 (8 * length log.now)) (skipped 0 29 at) }
 {
     if !is_padded(log, at + KIND_WIDTH) {
         return refused(refusal::ENDING, at);
@@ -108,7 +107,7 @@ fn skip_end(log: &[u8], at: usize) -> Skipped
 // The item at position `at`, but for a step's fields, where its kind has been read.
 fn skip_kind(log: &[u8], kind: u8, at: usize) -> Skipped
     requires { (kind ≡ kind_at log.now at) × (at + 4 ≤ 8 * length log.now) × (length log.now ≤ 65536) }
-    ensures { result ≡ skipped_at (lent log) at }
+    ensures { result ≡ skipped_at log.now at }
 {
     if KINDS <= kind as usize {
         return refused(refusal::NO_SUCH_STEP, at);
@@ -130,7 +129,7 @@ fn skip_kind(log: &[u8], kind: u8, at: usize) -> Skipped
 
 // The item at position `at`, but for a step's fields.
 pub fn skip_item(log: &[u8], at: usize) -> Skipped
-    ensures { result ≡ skipped_at (lent log) at }
+    ensures { result ≡ skipped_at log.now at }
 {
     if LONGEST < log.len() {
         return refused(refusal::LONG_LOG, at);
@@ -144,7 +143,7 @@ pub fn skip_item(log: &[u8], at: usize) -> Skipped
 
 // The item at position `at`.
 pub fn read_item(log: &[u8], at: usize) -> Read
-    ensures { (result ≡ item_at (lent log) at) × (numbers result.item ≡ numbers_at (lent log) at) }
+    ensures { (result ≡ item_at log.now at) × (numbers result.item ≡ numbers_at log.now at) }
 {
     let skipped = skip_item(log, at);
     if skipped.refusal != 0 {

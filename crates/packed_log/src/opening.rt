@@ -1,6 +1,5 @@
 // Reading the opening of a log.
 ghost use Rattle.std.specs.Prelude.{◌≡◌, ◌+◌, ◌*◌, ◌≤◌, eqb, ltb, length, take};
-ghost use Rattle.words.specs.Lent.{lent};
 ghost use Rattle.words.specs.Tests.{choose};
 ghost use Rattle.words.specs.Refusals.{first};
 ghost use Rattle.register.specs.Opening.{closed};
@@ -41,7 +40,7 @@ fn refused(number: u8) -> Opening
 
 // The refusal that is met up to the schedule's length: 30, 27, 1, 27 or 2.
 fn front_refusal(log: &[u8]) -> u8
-    ensures { result ≡ first (front_tests (lent log) (count_in (lent log)) (length_in (lent log) (count_in (lent log)))) }
+    ensures { result ≡ first (front_tests log.now (count_in log.now) (length_in log.now (count_in log.now))) }
 {
     if LONGEST < log.len() {
         return refusal::LONG_LOG;
@@ -66,7 +65,7 @@ fn front_refusal(log: &[u8]) -> u8
 // The trust word of n offices.
 fn read_trust(log: &[u8], n: u8) -> u32
     requires { (n ≤ 32) × (6 + n ≤ 8 * length log.now) × (length log.now ≤ 65536) }
-    ensures { result ≡ trust_in (lent log) n }
+    ensures { result ≡ trust_in log.now n }
 {
     let mut trust = 0;
     let mut q = 0;
@@ -80,7 +79,7 @@ fn read_trust(log: &[u8], n: u8) -> u32
 // So many leaders, from position `at` on.
 fn read_leaders(log: &[u8], at: usize, count: usize) -> [u8; 256]
     requires { (count ≤ 256) × (at + 5 * count ≤ 8 * length log.now) × (length log.now ≤ 65536) }
-    ensures { (length result ≡ 256) × (take count result ≡ leaders_at (lent log) at count) }
+    ensures { (length result ≡ 256) × (take count result ≡ leaders_at log.now at count) }
 {
     let mut leaders = [0u8; 256];
     let mut i = 0;
@@ -94,7 +93,7 @@ fn read_leaders(log: &[u8], at: usize, count: usize) -> [u8; 256]
 // How many of the k leaders are wholly there.
 fn there_of(log: &[u8], n: u8, k: usize) -> usize
     requires { length log.now ≤ 65536 }
-    ensures { (result ≡ there_in (lent log) n k) × (result ≤ k) × (5 * result ≤ left (lent log) (15 + n)) }
+    ensures { (result ≡ there_in log.now n k) × (result ≤ k) × (5 * result ≤ left log.now (15 + n)) }
 {
     let rest = left_of(log, COUNT_WIDTH + LENGTH_WIDTH + n as usize);
     shorter(k, rest / LEADER_WIDTH)
@@ -117,7 +116,7 @@ fn leader_refusal(opening: u8, there: usize, k: usize) -> u8
 fn open_with(log: &[u8], n: u8, k: usize) -> Opening
     requires { (1 ≤ n) × (n ≤ 32) × (1 ≤ k) × (k ≤ 256)
         × (15 + n ≤ 8 * length log.now) × (length log.now ≤ 65536) }
-    ensures { result ≡ opened_by (lent log) n k (first (leader_tests (lent log) n k)) }
+    ensures { result ≡ opened_by log.now n k (first (leader_tests log.now n k)) }
 {
     let from = COUNT_WIDTH + LENGTH_WIDTH + n as usize;
     let there = there_of(log, n, k);
@@ -137,7 +136,7 @@ fn open_with(log: &[u8], n: u8, k: usize) -> Opening
 
 // The opening of a log, read from bit 0.
 pub fn read_opening(log: &[u8]) -> Opening
-    ensures { result ≡ opening_in (lent log) }
+    ensures { result ≡ opening_in log.now }
 {
     let refusal = front_refusal(log);
     if refusal != 0 {

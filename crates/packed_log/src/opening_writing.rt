@@ -1,6 +1,5 @@
 // Writing the opening of a log.
 ghost use Rattle.std.specs.Prelude.{◌≡◌, ◌+◌, ◌*◌, ◌≤◌, ◌<◌, length};
-ghost use Rattle.words.specs.Lent.{lent, given};
 ghost use Rattle.packed_log.specs.Bits.{put};
 ghost use Rattle.packed_log.specs.Writing.{office_bits, leader_bits, opening_bits, HasRoom, Led, opening_refused, wrote, laid};
 
@@ -12,7 +11,7 @@ use crate::writing::{Wrote, room_of};
 // Lays the trust bits of n offices over the buffer from position `at` on, office 0 first.
 fn write_trust(buf: &mut [u8], at: usize, n: u8, trust: u32)
     requires { (n ≤ 32) × HasRoom buf.old at n }
-    ensures { given buf ≡ put (lent buf) at (office_bits n trust) }
+    ensures { buf.new ≡ put buf.old at (office_bits n trust) }
 {
     let mut q = 0;
     while q < n {
@@ -24,7 +23,7 @@ fn write_trust(buf: &mut [u8], at: usize, n: u8, trust: u32)
 // Lays the leaders of a schedule over the buffer from position `at` on.
 fn write_leaders(buf: &mut [u8], at: usize, schedule: &[u8])
     requires { Led schedule.now × HasRoom buf.old at (5 * length schedule.now) }
-    ensures { given buf ≡ put (lent buf) at (leader_bits (lent schedule)) }
+    ensures { buf.new ≡ put buf.old at (leader_bits schedule.now) }
 {
     let mut i = 0;
     while i < schedule.len() {
@@ -36,7 +35,7 @@ fn write_leaders(buf: &mut [u8], at: usize, schedule: &[u8])
 // Lays n, the trust bits, the schedule's length and its leaders over the buffer from position `at` on.
 fn lay_opening(buf: &mut [u8], at: usize, n: u8, trust: u32, schedule: &[u8])
     requires { (n ≤ 32) × Led schedule.now × HasRoom buf.old at (15 + n + 5 * length schedule.now) }
-    ensures { given buf ≡ put (lent buf) at (opening_bits n trust (lent schedule)) }
+    ensures { buf.new ≡ put buf.old at (opening_bits n trust schedule.now) }
 {
     let after_count = at + COUNT_WIDTH;
     let after_trust = after_count + n as usize;
@@ -48,9 +47,9 @@ fn lay_opening(buf: &mut [u8], at: usize, n: u8, trust: u32, schedule: &[u8])
 
 // Writes an opening at position `at`.
 pub fn write_opening(buf: &mut [u8], at: usize, n: u8, trust: u32, schedule: &[u8]) -> Wrote
-    ensures { (result ≡ wrote (opening_refused (lent buf) at n trust (lent schedule)) at (opening_bits n trust (lent schedule)))
-        × (given buf ≡ laid (lent buf) (opening_refused (lent buf) at n trust (lent schedule)) at
-        (opening_bits n trust (lent schedule))) }
+    ensures { (result ≡ wrote (opening_refused buf.old at n trust schedule.now) at (opening_bits n trust schedule.now))
+        × (buf.new ≡ laid buf.old (opening_refused buf.old at n trust schedule.now) at
+        (opening_bits n trust schedule.now)) }
 {
     let refusal = quorum::opening_refusal(n, trust, schedule);
     if refusal != 0 {

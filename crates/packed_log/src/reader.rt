@@ -1,7 +1,6 @@
 // A reader, which keeps the lent log beside a position in it, for whoever reads a log item by item. It is thin:
 // `read_opening` and `read_item` do the work.
 ghost use Rattle.std.specs.Prelude.{◌≡◌};
-ghost use Rattle.words.specs.Lent.{lent, given};
 ghost use Rattle.packed_log.specs.Items.{item_at, numbers, numbers_at};
 ghost use Rattle.packed_log.specs.Openings.{opening_in};
 
@@ -25,9 +24,9 @@ impl<'a> Reader<'a> {
 
     // The opening of the log. It moves the position behind the last leader; a refusal, to the log's start.
     pub fn open(&mut self) -> Opening
-        ensures { (result ≡ opening_in (lent self).log.now)
-            × ((given self).log ≡ (lent self).log)
-            × ((given self).at ≡ (opening_in (lent self).log.now).next) }
+        ensures { (result ≡ opening_in self.old.log.now)
+            × (self.new.log ≡ self.old.log)
+            × (self.new.at ≡ (opening_in self.old.log.now).next) }
     {
         let opening = read_opening(self.log);
         self.at = opening.next;
@@ -36,10 +35,10 @@ impl<'a> Reader<'a> {
 
     // The item at the position. A step moves the position behind its fields, the end to the log's end; a refusal leaves it.
     pub fn next(&mut self) -> Item
-        ensures { (result ≡ (item_at (lent self).log.now (lent self).at).item)
-            × (numbers result ≡ numbers_at (lent self).log.now (lent self).at)
-            × ((given self).log ≡ (lent self).log)
-            × ((given self).at ≡ (item_at (lent self).log.now (lent self).at).next) }
+        ensures { (result ≡ (item_at self.old.log.now self.old.at).item)
+            × (numbers result ≡ numbers_at self.old.log.now self.old.at)
+            × (self.new.log ≡ self.old.log)
+            × (self.new.at ≡ (item_at self.old.log.now self.old.at).next) }
     {
         let read = read_item(self.log, self.at);
         self.at = read.next;

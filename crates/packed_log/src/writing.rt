@@ -1,6 +1,5 @@
 // Writing a step or the end into a buffer, at a given position.
 ghost use Rattle.std.specs.Prelude.{◌≡◌, ◌+◌, ◌*◌, ◌-◌, ◌^◌, ◌≤◌, ◌<◌, leb, length};
-ghost use Rattle.words.specs.Lent.{lent, given};
 ghost use Rattle.packed_log.specs.Bits.{put};
 ghost use Rattle.packed_log.specs.Rows.{Narrow};
 ghost use Rattle.packed_log.specs.Widths.{kinds, due};
@@ -24,7 +23,7 @@ const MOST_BYTES: usize = 0x1FFF_FFFF_FFFF_FFFF;
 
 // How many bits the buffer has left from position `at` on.
 pub(crate) fn room_of(buf: &[u8], at: usize) -> usize
-    ensures { result ≡ room (lent buf) at }
+    ensures { result ≡ room buf.now at }
 {
     left_from(8 * shorter(buf.len(), MOST_BYTES), at)
 }
@@ -61,7 +60,7 @@ fn head_of(kind: u8, first: u16, width: usize) -> u16
 // Lays the kind and the fields of a row over the buffer from position `at` on, the kind together with the first field.
 fn write_row(buf: &mut [u8], at: usize, r: Row)
     requires { (r.kind < kinds) × HasRoom buf.old at (4 + due r.kind) × Narrow r }
-    ensures { given buf ≡ put (lent buf) at (row_bits r) }
+    ensures { buf.new ≡ put buf.old at (row_bits r) }
 {
     let kind = r.kind;
     let w0 = width_of(kind, 0);
@@ -80,7 +79,7 @@ fn write_row(buf: &mut [u8], at: usize, r: Row)
 // The refusal of a row at position `at`.
 fn row_refusal(buf: &[u8], at: usize, r: Row) -> u8
     requires { r.kind < kinds }
-    ensures { result ≡ row_refused (lent buf) at r }
+    ensures { result ≡ row_refused buf.now at r }
 {
     if is_wide(r) {
         return register::refusal::WIDE;
@@ -93,8 +92,8 @@ fn row_refusal(buf: &[u8], at: usize, r: Row) -> u8
 
 // Writes a step at position `at`.
 pub fn write_step(buf: &mut [u8], at: usize, step: Step) -> Wrote
-    ensures { (result ≡ wrote (step_refused (lent buf) at step) at (step_bits step))
-        × (given buf ≡ laid (lent buf) (step_refused (lent buf) at step) at (step_bits step)) }
+    ensures { (result ≡ wrote (step_refused buf.old at step) at (step_bits step))
+        × (buf.new ≡ laid buf.old (step_refused buf.old at step) at (step_bits step)) }
 {
     let row = row_of(step);
     let refusal = row_refusal(buf, at, row);
@@ -117,8 +116,8 @@ fn end_width(at: usize) -> usize
 
 // Writes the end at position `at`, with its zero pad.
 pub fn write_end(buf: &mut [u8], at: usize) -> Wrote
-    ensures { (result ≡ wrote (end_refused (lent buf) at) at (end_bits at))
-        × (given buf ≡ laid (lent buf) (end_refused (lent buf) at) at (end_bits at)) }
+    ensures { (result ≡ wrote (end_refused buf.old at) at (end_bits at))
+        × (buf.new ≡ laid buf.old (end_refused buf.old at) at (end_bits at)) }
 {
     let size = end_width(at);
     if room_of(buf, at) < size {

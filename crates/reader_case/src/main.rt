@@ -2,7 +2,6 @@
 #![tactic(auto)]
 
 ghost use Rattle.std.specs.Prelude.{◌≡◌, ◌≤◌};
-ghost use Rattle.words.specs.Lent.{lent};
 ghost use Rattle.reader_case.specs.Counts.{opened, counted, count_of};
 
 use libc::STDOUT_FILENO;
@@ -53,7 +52,7 @@ fn with_item(count: Count, item: Item) -> Count
 
 // Reads a whole log through a reader: how many steps it has, and the number that it is refused with, 0 where it reads.
 fn count_steps(log: &[u8]) -> Count
-    ensures { result ≡ count_of (lent log) }
+    ensures { result ≡ count_of log.now }
 {
     let mut reader = Reader::new(log);
     let opening = reader.open();

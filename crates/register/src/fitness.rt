@@ -1,6 +1,5 @@
 // Whether a register is fit: every number in it is in its range.
 ghost use Rattle.std.specs.Prelude.{◌≡◌, not, ◌+◌, ◌≤◌, ltb, get_or};
-ghost use Rattle.words.specs.Lent.{lent};
 ghost use Rattle.words.specs.Tests.{either, conj, all};
 ghost use Rattle.tables.specs.Blocks.{trusted_in};
 ghost use Rattle.register.specs.Limits.{most_offices, most_epochs, most_messages};
@@ -29,7 +28,7 @@ fn counts_fit(scalars: Scalars) -> bool
 // Every leader of the schedule is an office.
 fn leaders_fit(leaders: &Leaders, scheduled: usize, n: u8) -> bool
     requires { scheduled ≤ most_epochs }
-    ensures { result ≡ all scheduled (λ i. ltb (get_or (lent leaders) i 0) n) }
+    ensures { result ≡ all scheduled (λ i. ltb (get_or leaders.now i 0) n) }
 {
     let mut fits = true;
     let mut i = 0;
@@ -50,7 +49,7 @@ fn block_fits(b: u8, parent: u8, epoch: u16) -> bool
 // Every block from 1 to the last fits.
 fn blocks_fit<'a>(parents: &'a Parents, epochs: &'a Epochs, last: u8) -> bool
     ensures { result ≡ all last
-        (λ k. block_fits (k + 1) (get_or (lent parents) (k + 1) 0) (get_or (lent epochs) (k + 1) 0)) }
+        (λ k. block_fits (k + 1) (get_or parents.now (k + 1) 0) (get_or epochs.now (k + 1) 0)) }
 {
     let mut fits = true;
     let mut k = 0;
@@ -73,7 +72,7 @@ fn message_fits(n: u8, last: u8, signer: u8, about: u8) -> bool
 // Every message sent fits.
 fn messages_fit<'a>(signers: &'a Signers, about: &'a About, count: usize, n: u8, last: u8) -> bool
     requires { count ≤ most_messages }
-    ensures { result ≡ all count (λ m. message_fits n last (get_or (lent signers) m 0) (get_or (lent about) m 0)) }
+    ensures { result ≡ all count (λ m. message_fits n last (get_or signers.now m 0) (get_or about.now m 0)) }
 {
     let mut fits = true;
     let mut m = 0;

@@ -1,6 +1,5 @@
 // Opening a register.
 ghost use Rattle.std.specs.Prelude.{◌≡◌, ◌≤◌, length};
-ghost use Rattle.words.specs.Lent.{lent};
 ghost use Rattle.register.specs.Limits.{most_epochs};
 ghost use Rattle.register.specs.Opening.{leader_table, blank, closed, fresh_book, opening};
 
@@ -13,7 +12,7 @@ use crate::table::{OfficeState, Opened, Register};
 // The table of leaders: the schedule, and office 0 past its end.
 fn leader_table(schedule: &[u8]) -> Leaders
     requires { length schedule.now ≤ most_epochs }
-    ensures { result ≡ leader_table (lent schedule) }
+    ensures { result ≡ leader_table schedule.now }
 {
     let mut leaders = [0u8; EPOCHS];
     let mut i = 0;
@@ -61,7 +60,7 @@ pub fn closed() -> Register
 // The book of an opening that is not refused; trust bits from n up are stored as 0.
 fn fresh_book(n: u8, trust: u32, schedule: &[u8]) -> Book
     requires { length schedule.now ≤ most_epochs }
-    ensures { result ≡ fresh_book n trust (lent schedule) }
+    ensures { result ≡ fresh_book n trust schedule.now }
 {
     blank(
         n,
@@ -75,7 +74,7 @@ fn fresh_book(n: u8, trust: u32, schedule: &[u8]) -> Book
 impl Register {
     // Opens a register for n offices, with a leader for each epoch of the schedule.
     pub fn open(n: u8, trust: u32, schedule: &[u8]) -> Opened
-        ensures { result ≡ opening n trust (lent schedule) }
+        ensures { result ≡ opening n trust schedule.now }
     {
         let refusal = quorum::opening_refusal(n, trust, schedule);
         if refusal == 0 {

@@ -1,6 +1,5 @@
 // What a log holds behind its opening: steps, up to the end or to a refusal.
 ghost use Rattle.std.specs.Prelude.{◌≡◌, eqb};
-ghost use Rattle.words.specs.Lent.{lent};
 ghost use Rattle.words.specs.Tests.{choose};
 ghost use Rattle.replay.specs.Bodies.{body_at};
 ghost use Rattle.replay.specs.Parts.{steps_of, part_at};
@@ -13,7 +12,7 @@ use register::run::Batch;
 
 // The refusal that reading the log from position `at` on ends with; 0 where it ends with the end.
 fn fault_from(log: &[u8], at: usize) -> u8
-    ensures { result ≡ (body_at (lent log) at).refusal }
+    ensures { result ≡ (body_at log.now at).refusal }
 {
     let mut next = at;
     loop {
@@ -27,7 +26,7 @@ fn fault_from(log: &[u8], at: usize) -> u8
 
 // The number that a log is refused with: that of its opening, else that of what stands behind it.
 pub fn fault_of(log: &[u8], opening: u8, next: usize) -> u8
-    ensures { result ≡ choose (eqb opening 0) (body_at (lent log) next).refusal opening }
+    ensures { result ≡ choose (eqb opening 0) (body_at log.now next).refusal opening }
 {
     if opening == 0 {
         return fault_from(log, next);
@@ -51,7 +50,7 @@ pub struct Part {
 
 // The steps from position `at` on, up to a batch of them. Each item is read once.
 pub fn read_part(log: &[u8], at: usize) -> Part
-    ensures { result ≡ part_at (lent log) at }
+    ensures { result ≡ part_at log.now at }
 {
     let empty = Slot {
         step: Step::Advance,

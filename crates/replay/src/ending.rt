@@ -1,6 +1,5 @@
 // Running a whole log, for whoever wants the register behind its last step.
 ghost use Rattle.std.specs.Prelude.{◌≡◌};
-ghost use Rattle.words.specs.Lent.{lent};
 ghost use Rattle.register.specs.Runs.{after_steps};
 ghost use Rattle.replay.specs.Bodies.{body_at};
 ghost use Rattle.replay.specs.Endings.{end_of};
@@ -19,7 +18,7 @@ pub struct Ended {
 
 // Runs the steps that stand from position `from` on, from that register.
 fn run_from(log: &[u8], from: usize, register: Register) -> Register
-    ensures { result ≡ after_steps register (body_at (lent log) from).steps }
+    ensures { result ≡ after_steps register (body_at log.now from).steps }
 {
     let mut current = register;
     let mut at = from;
@@ -39,7 +38,7 @@ fn run_from(log: &[u8], from: usize, register: Register) -> Register
 
 // Runs a log.
 pub fn run_log(log: &[u8]) -> Ended
-    ensures { result ≡ end_of (lent log) }
+    ensures { result ≡ end_of log.now }
 {
     let opening = read_opening(log);
     let refusal = fault_of(log, opening.refusal, opening.next);

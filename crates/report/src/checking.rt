@@ -1,6 +1,5 @@
 // The whole check: a log's bytes to the report's bytes.
 ghost use Rattle.std.specs.Prelude.{◌≡◌, ◌≤◌, leb, length, replicate};
-ghost use Rattle.words.specs.Lent.{lent, given};
 ghost use Rattle.words.specs.Tests.{choose};
 ghost use Rattle.report.specs.Text.{TextWritten};
 ghost use Rattle.report.specs.Reports.{fault_line, report_of, report_bound, given_length, buffer_after};
@@ -15,8 +14,8 @@ pub const LONGEST_REPORT: usize = 2228928;
 
 // The report's length where it fits; else 0, and the buffer is all zero.
 fn fitted(report: &mut [u8], size: usize) -> usize
-    ensures { (result ≡ choose (leb size (length (lent report))) size 0)
-        × (given report ≡ choose (leb size (length (lent report))) (lent report) (replicate (length (lent report)) 0)) }
+    ensures { (result ≡ choose (leb size (length report.old)) size 0)
+        × (report.new ≡ choose (leb size (length report.old)) report.old (replicate (length report.old) 0)) }
 {
     if size <= report.len() {
         return size;
@@ -27,8 +26,8 @@ fn fitted(report: &mut [u8], size: usize) -> usize
 
 // Writes the one line of a log that does not read: the word `empty` where it has no bytes, else its number.
 fn write_fault_line(report: &mut [u8], log: &[u8], fault: u8) -> usize
-    ensures { TextWritten (lent report) 0 (fault_line (lent log) fault) result (given report)
-        × (result ≤ report_bound (length (lent log))) }
+    ensures { TextWritten report.old 0 (fault_line log.now fault) result report.new
+        × (result ≤ report_bound (length log.now)) }
 {
     if log.len() == 0 {
         return write_empty_line(report, 0);
@@ -38,8 +37,8 @@ fn write_fault_line(report: &mut [u8], log: &[u8], fault: u8) -> usize
 
 // Writes the report of a log.
 fn write_report(report: &mut [u8], log: &[u8]) -> usize
-    ensures { TextWritten (lent report) 0 (report_of (lent log)) result (given report)
-        × (result ≤ report_bound (length (lent log))) }
+    ensures { TextWritten report.old 0 (report_of log.now) result report.new
+        × (result ≤ report_bound (length log.now)) }
 {
     let opening = read_opening(log);
     let fault = fault_of(log, opening.refusal, opening.next);
@@ -53,9 +52,9 @@ fn write_report(report: &mut [u8], log: &[u8]) -> usize
 // Checks a log, writes the report into the buffer and gives its length. Where it does not fit, that is 0, and the buffer is all zero. The
 // report of a log of n bytes has at most 34 × n + 704 bytes, and none more than LONGEST_REPORT.
 pub fn check(log: &[u8], report: &mut [u8]) -> usize
-    ensures { (result ≡ given_length (lent log) (lent report))
-        × (given report ≡ buffer_after (lent log) (lent report))
-        × (length (report_of (lent log)) ≤ report_bound (length (lent log))) }
+    ensures { (result ≡ given_length log.now report.old)
+        × (report.new ≡ buffer_after log.now report.old)
+        × (length (report_of log.now) ≤ report_bound (length log.now)) }
 {
     let size = write_report(report, log);
     fitted(report, size)

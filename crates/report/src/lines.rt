@@ -1,6 +1,5 @@
 // The lines of a report, many at a time.
 ghost use Rattle.std.specs.Prelude.{◌+◌, ◌*◌, ◌^◌, ◌≤◌, ◌<◌};
-ghost use Rattle.words.specs.Lent.{lent, given};
 ghost use Rattle.register.specs.Limits.{batch};
 ghost use Rattle.report.specs.Text.{TextWritten, step_bytes, office_bytes};
 ghost use Rattle.report.specs.Reports.{office_text, office_lines};
@@ -20,7 +19,7 @@ pub(crate) fn write_batch<'a>(
     count: usize,
 ) -> usize
     requires { (count ≤ batch) × (place + count ≤ 131073) × (at ≤ 2 ^ 31) }
-    ensures { TextWritten (lent report) at (batch_lines place (lent refusals) (lent values) count) result (given report)
+    ensures { TextWritten report.old at (batch_lines place refusals.now values.now count) result report.new
         × (result ≤ at + step_bytes * count) }
 {
     let mut next = at;
@@ -35,7 +34,7 @@ pub(crate) fn write_batch<'a>(
 // Writes the line of a trusted office; nothing for any other.
 fn write_office(report: &mut [u8], at: usize, register: Register, q: u8) -> usize
     requires { (q < 32) × (at ≤ 2 ^ 31) }
-    ensures { TextWritten (lent report) at (office_text register q) result (given report) × (result ≤ at + office_bytes) }
+    ensures { TextWritten report.old at (office_text register q) result report.new × (result ≤ at + office_bytes) }
 {
     if !register.is_trusted(Office(q)) {
         return at;
@@ -49,7 +48,7 @@ fn write_office(report: &mut [u8], at: usize, register: Register, q: u8) -> usiz
 // Writes the lines of the trusted offices, ascending.
 pub(crate) fn write_offices(report: &mut [u8], at: usize, register: Register) -> usize
     requires { at ≤ 2 ^ 30 }
-    ensures { TextWritten (lent report) at (office_lines register 32) result (given report) × (result ≤ at + 32 * office_bytes) }
+    ensures { TextWritten report.old at (office_lines register 32) result report.new × (result ≤ at + 32 * office_bytes) }
 {
     let mut next = at;
     let mut q = 0;

@@ -1,6 +1,5 @@
 // Running the steps of a log.
 ghost use Rattle.std.specs.Prelude.{◌≤◌, length};
-ghost use Rattle.words.specs.Lent.{lent, given};
 ghost use Rattle.report.specs.Text.{TextWritten};
 ghost use Rattle.replay.specs.Bodies.{body_at};
 ghost use Rattle.report.specs.Reports.{run_lines, report_bound};
@@ -11,8 +10,8 @@ use replay::body::{read_part, steps_of};
 
 // Writes the lines of the steps that stand from position `from` on, run from that register, and then those of the offices.
 pub(crate) fn write_run(report: &mut [u8], log: &[u8], from: usize, register: Register) -> usize
-    ensures { TextWritten (lent report) 0 (run_lines register 1 (body_at (lent log) from).steps) result (given report)
-        × (result ≤ report_bound (length (lent log))) }
+    ensures { TextWritten report.old 0 (run_lines register 1 (body_at log.now from).steps) result report.new
+        × (result ≤ report_bound (length log.now)) }
 {
     let mut current = register;
     let mut at = from;

@@ -1,13 +1,12 @@
 // Text written into a lent buffer from a position on, and the position behind it. A byte past the buffer's end is dropped, and the position
 // is counted on all the same.
 ghost use Rattle.std.specs.Prelude.{◌≡◌, ◌+◌, ◌^◌, ◌≤◌, ◌<◌, ◌∷◌, [], length, replicate, set};
-ghost use Rattle.words.specs.Lent.{lent, given};
 ghost use Rattle.report.specs.Text.{TextWritten, decimal, number_then, numbers, step_line, office_line, step_bytes, office_bytes, log_line, empty_line};
 
 // Writes one byte.
 fn put(report: &mut [u8], at: usize, byte: u8) -> usize
     requires { at + 1 < 2 ^ 64 }
-    ensures { TextWritten (lent report) at (byte ∷ []) result (given report) }
+    ensures { TextWritten report.old at (byte ∷ []) result report.new }
 {
     if at < report.len() {
         report[at] = byte;
@@ -17,7 +16,7 @@ fn put(report: &mut [u8], at: usize, byte: u8) -> usize
 
 // Makes every byte of the buffer 0.
 pub(crate) fn clear(report: &mut [u8])
-    ensures { given report ≡ replicate (length (lent report)) 0 }
+    ensures { report.new ≡ replicate (length report.old) 0 }
 {
     let mut i = 0;
     while i < report.len() {
@@ -28,7 +27,7 @@ pub(crate) fn clear(report: &mut [u8])
 // Writes a word.
 fn write_word(report: &mut [u8], at: usize, word: &[u8]) -> usize
     requires { at + length word.now < 2 ^ 64 }
-    ensures { TextWritten (lent report) at (lent word) result (given report) }
+    ensures { TextWritten report.old at word.now result report.new }
 {
     let mut next = at;
     let mut i = 0;
@@ -58,7 +57,7 @@ fn digits_of(n: usize) -> usize
 // Puts one digit at its place.
 fn put_digit(report: &mut [u8], at: usize, digit: usize)
     requires { (at + 1 < 2 ^ 64) × (digit < 10) }
-    ensures { given report ≡ set (lent report) at (48 + digit) }
+    ensures { report.new ≡ set report.old at (48 + digit) }
 {
     put(report, at, b'0' + digit as u8);
 }
@@ -66,7 +65,7 @@ fn put_digit(report: &mut [u8], at: usize, digit: usize)
 // Writes a number, from its last digit to its first.
 fn write_decimal(report: &mut [u8], at: usize, n: usize) -> usize
     requires { at + 20 < 2 ^ 64 }
-    ensures { TextWritten (lent report) at (decimal n) result (given report) × (result ≤ at + 20) }
+    ensures { TextWritten report.old at (decimal n) result report.new × (result ≤ at + 20) }
 {
     let next = at + digits_of(n);
     let mut place = next;
@@ -83,7 +82,7 @@ fn write_decimal(report: &mut [u8], at: usize, n: usize) -> usize
 // Writes a number and one byte behind it.
 fn write_number(report: &mut [u8], at: usize, n: usize, behind: u8) -> usize
     requires { at + 21 < 2 ^ 64 }
-    ensures { TextWritten (lent report) at (number_then n behind) result (given report) × (result ≤ at + 21) }
+    ensures { TextWritten report.old at (number_then n behind) result report.new × (result ≤ at + 21) }
 {
     let next = write_decimal(report, at, n);
     put(report, next, behind)
@@ -92,7 +91,7 @@ fn write_number(report: &mut [u8], at: usize, n: usize, behind: u8) -> usize
 // Writes three numbers and the line's end.
 fn write_three(report: &mut [u8], at: usize, first: usize, second: usize, third: usize) -> usize
     requires { at + 63 < 2 ^ 64 }
-    ensures { TextWritten (lent report) at (numbers first (second ∷ third ∷ [])) result (given report) }
+    ensures { TextWritten report.old at (numbers first (second ∷ third ∷ [])) result report.new }
 {
     let after_first = write_number(report, at, first, b' ');
     let after_second = write_number(report, after_first, second, b' ');
@@ -108,7 +107,7 @@ pub(crate) fn write_step_line(
     value: u16,
 ) -> usize
     requires { (at ≤ 2 ^ 32) × (place ≤ 131072) }
-    ensures { TextWritten (lent report) at (step_line place refusal value) result (given report) × (result ≤ at + step_bytes) }
+    ensures { TextWritten report.old at (step_line place refusal value) result report.new × (result ≤ at + step_bytes) }
 {
     write_three(report, at, place, refusal as usize, value as usize)
 }
@@ -123,7 +122,7 @@ pub(crate) fn write_office_line(
     signers: u8,
 ) -> usize
     requires { (at ≤ 2 ^ 32) × (office < 32) }
-    ensures { TextWritten (lent report) at (office_line office last size signers) result (given report) × (result ≤ at + office_bytes) }
+    ensures { TextWritten report.old at (office_line office last size signers) result report.new × (result ≤ at + office_bytes) }
 {
     let after_word = write_word(report, at, b"office ");
     let after_office = write_number(report, after_word, office as usize, b' ');
@@ -139,7 +138,7 @@ pub(crate) fn write_office_line(
 // Writes the line of a refused log: the number of the refusal.
 pub(crate) fn write_log_line(report: &mut [u8], at: usize, number: u8) -> usize
     requires { at ≤ 2 ^ 32 }
-    ensures { TextWritten (lent report) at (log_line number) result (given report) × (result ≤ at + 25) }
+    ensures { TextWritten report.old at (log_line number) result report.new × (result ≤ at + 25) }
 {
     let next = write_word(report, at, b"log ");
     write_number(report, next, number as usize, b'\n')
@@ -148,7 +147,7 @@ pub(crate) fn write_log_line(report: &mut [u8], at: usize, number: u8) -> usize
 // Writes the line of a log of no bytes.
 pub(crate) fn write_empty_line(report: &mut [u8], at: usize) -> usize
     requires { at ≤ 2 ^ 32 }
-    ensures { TextWritten (lent report) at empty_line result (given report) × (result ≤ at + 6) }
+    ensures { TextWritten report.old at empty_line result report.new × (result ≤ at + 6) }
 {
     write_word(report, at, b"empty\n")
 }

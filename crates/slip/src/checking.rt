@@ -1,6 +1,5 @@
 // Checking a slip.
 ghost use Rattle.std.specs.Prelude.{◌≡◌, true, not, [], ◌∷◌, ◌+◌, ◌*◌, ◌≤◌, ltb, length};
-ghost use Rattle.words.specs.Lent.{lent};
 ghost use Rattle.words.specs.Tests.{both, every};
 ghost use Rattle.words.specs.Refusals.{◌⇒◌, first};
 ghost use Rattle.tables.specs.Blocks.{parent_in, epoch_in};
@@ -39,7 +38,7 @@ fn is_link<'a>(
     row: u32,
 ) -> bool
     ensures { result ≡ both
-        (ltb (epoch_in (lent epochs) last (parent_in (lent parents) last b)) (epoch_in (lent epochs) last b)) (enough_in row n) }
+        (ltb (epoch_in epochs.now last (parent_in parents.now last b)) (epoch_in epochs.now last b)) (enough_in row n) }
 {
     let parent = tables::parent_at(parents, last, b);
     if tables::epoch_at(epochs, last, b) <= tables::epoch_at(epochs, last, parent) {
@@ -64,9 +63,9 @@ fn marks_refusal<'a>(
     requires { (n ≤ 32) × (due ≡ 8 + n * length (chain_by (parent_in parents.now last) b)) × (due ≤ 8 * length slip.now)
         × (length slip.now ≤ 65536) }
     ensures { result ≡ first
-        ((not (every (truth_in (lent slip) (lent history) (parent_in (lent parents) last) n) (chain_by (parent_in (lent parents) last) b)) ⇒ 34)
+        ((not (every (truth_in slip.now history.now (parent_in parents.now last) n) (chain_by (parent_in parents.now last) b)) ⇒ 34)
         ∷ (not (both three
-        (every (link_in (lent slip) (parent_in (lent parents) last) (epoch_in (lent epochs) last) n) (chain_by (parent_in (lent parents) last) b)))
+        (every (link_in slip.now (parent_in parents.now last) (epoch_in epochs.now last) n) (chain_by (parent_in parents.now last) b)))
         ⇒ 21)
         ∷ []) }
 {
@@ -93,8 +92,8 @@ fn marks_refusal<'a>(
 fn judge(book: Book, slip: &[u8], b: u8, due: usize) -> u8
     requires { (fit book ≡ true) × Sizes book × (due ≡ bits_due book b) × (due ≤ 8 * length slip.now) × (length slip.now ≤ 65536) }
     ensures { result ≡ first
-        ((not (every (truly book (lent slip)) (chain book b)) ⇒ 34)
-        ∷ (not (finalises_by book (marked_enough book (lent slip)) b) ⇒ 21)
+        ((not (every (truly book slip.now) (chain book b)) ⇒ 34)
+        ∷ (not (finalises_by book (marked_enough book slip.now) b) ⇒ 21)
         ∷ []) }
 {
     let n = book.n;
@@ -120,7 +119,7 @@ fn judge(book: Book, slip: &[u8], b: u8, due: usize) -> u8
 // The refusal of a slip that names block b, 0 where there is none.
 fn slip_refusal(book: Book, slip: &[u8], b: u8) -> u8
     requires { Sizes book }
-    ensures { result ≡ first (check_tests book (lent slip) b) }
+    ensures { result ≡ first (check_tests book slip.now b) }
 {
     if !book.is_fit() {
         return register::refusal::UNFIT_REGISTER;
@@ -138,7 +137,7 @@ fn slip_refusal(book: Book, slip: &[u8], b: u8) -> u8
 
 // Checks a slip: whether every marked signature is in the history, and whether by the marks the finalise rule holds for the block that it names.
 pub fn check_slip(register: Register, slip: &[u8]) -> Checked
-    ensures { result ≡ checked (book_of register) (lent slip) }
+    ensures { result ≡ checked (book_of register) slip.now }
 {
     let book = register.book();
     let b = block_in(slip);

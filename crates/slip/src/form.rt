@@ -1,6 +1,5 @@
 // The form of a slip: the block that it names, how long it is, and its pad.
 ghost use Rattle.std.specs.Prelude.{◌≡◌, ◌+◌, ◌*◌, ◌/◌, ◌≤◌, leb, length};
-ghost use Rattle.words.specs.Lent.{lent};
 ghost use Rattle.words.specs.Tests.{both};
 ghost use Rattle.packed_log.specs.Items.{padded};
 ghost use Rattle.slip.specs.Slips.{block_in};
@@ -10,7 +9,7 @@ pub(crate) const BLOCK_WIDTH: usize = 8;
 
 // The block that the slip names; genesis where it has no byte.
 pub(crate) fn block_in(slip: &[u8]) -> u8
-    ensures { result ≡ block_in (lent slip) }
+    ensures { result ≡ block_in slip.now }
 {
     if slip.len() == 0 {
         return 0;
@@ -37,7 +36,7 @@ pub(crate) fn bytes_due(bits: usize) -> usize
 // The slip has so many bits, behind them zero bits to the byte's end, and no byte more.
 pub(crate) fn is_formed(slip: &[u8], bits: usize) -> bool
     requires { bits ≤ 8168 }
-    ensures { result ≡ both (leb bits (8 * length (lent slip))) (padded (lent slip) bits) }
+    ensures { result ≡ both (leb bits (8 * length slip.now)) (padded slip.now bits) }
 {
     if slip.len() != bytes_due(bits) {
         return false;

@@ -1,7 +1,6 @@
 // The rows of a slip as words. In a row the bit of office 0 comes first, so in the row's number that of the last office is the lowest. To stand beside
 // rows, the signers of each block are gathered in that order.
 ghost use Rattle.std.specs.Prelude.{◌≡◌, map, min};
-ghost use Rattle.words.specs.Lent.{lent};
 ghost use Rattle.tables.specs.Searches.{messages, view_in};
 ghost use Rattle.slip.specs.Rows.{mirror, everywhere};
 
@@ -37,7 +36,7 @@ pub(crate) fn rows_of<'a>(
     n: u8,
     q: u8,
 ) -> View
-    ensures { result ≡ view_in (lent places) (map (mirror n) signers) (lent about) (min count messages) q }
+    ensures { result ≡ view_in places.now (map (mirror n) signers) about.now (min count messages) q }
 {
     let bits = mirrored_all(signers, n);
     tables::view_of(places, &bits, about, count, q)
@@ -53,7 +52,7 @@ pub(crate) fn history_rows<'a>(
     count: usize,
     n: u8,
 ) -> View
-    ensures { result ≡ view_in everywhere (map (mirror n) signers) (lent about) (min count messages) 0 }
+    ensures { result ≡ view_in everywhere (map (mirror n) signers) about.now (min count messages) 0 }
 {
     let places = [EVERYWHERE; MESSAGES];
     rows_of(&places, signers, about, count, n, 0)

@@ -1,6 +1,5 @@
 // Writing a slip from a trusted office's view.
 ghost use Rattle.std.specs.Prelude.{◌≡◌, ◌++◌, false, ◌+◌, ◌*◌, ◌-◌, ◌/◌, ◌≤◌, length, replicate};
-ghost use Rattle.words.specs.Lent.{lent, given};
 ghost use Rattle.words.specs.Refusals.{first};
 ghost use Rattle.tables.specs.Blocks.{parent_in};
 ghost use Rattle.tables.specs.Chains.{chain_by};
@@ -87,9 +86,9 @@ fn lay_slip<'a>(
 )
     requires { (n ≤ 32) × (due ≡ 8 + n * length (chain_by (parent_in parents.now last) b)) × (length slip.old ≡ (due + 7) / 8)
         × (length slip.old ≤ 65536) }
-    ensures { given slip ≡ put (lent slip) 0
-        (to_bits 8 b ++ rows_in (lent rows) n (chain_by (parent_in (lent parents) last) b)
-        ++ replicate (8 * length (lent slip) - due) false) }
+    ensures { slip.new ≡ put slip.old 0
+        (to_bits 8 b ++ rows_in rows.now n (chain_by (parent_in parents.now last) b)
+        ++ replicate (8 * length slip.old - due) false) }
 {
     let pad = 8 * slip.len() - due;
     packed_log::write_field(slip, due, pad, 0);
@@ -105,8 +104,8 @@ fn lay_slip<'a>(
 
 // Writes a slip about block b from the office's view, marking every signature there.
 pub fn write_slip(register: Register, office: Office, b: Block, buf: &mut [u8]) -> Written
-    ensures { (result ≡ written (book_of register) office.0 b.0 (lent buf))
-        × (given buf ≡ buffer_after (book_of register) office.0 b.0 (lent buf)) × (result.length ≤ 1021) }
+    ensures { (result ≡ written (book_of register) office.0 b.0 buf.old)
+        × (buf.new ≡ buffer_after (book_of register) office.0 b.0 buf.old) × (result.length ≤ 1021) }
 {
     let book = register.book();
     let refusal = rule_refusal(book, office, b);

@@ -3,7 +3,6 @@
 #![tactic(auto)]
 
 ghost use Rattle.std.specs.Prelude.{◌≡◌, ◌^◌, ◌<◌, ◌≤◌, length};
-ghost use Rattle.words.specs.Lent.{lent, given};
 ghost use Rattle.replay.specs.Endings.{end_of};
 ghost use Rattle.skovarnek_slip.specs.Answers.{answer_of, slip_checked, slip_written, slip_after};
 
@@ -34,8 +33,8 @@ fn start_of(last: u32, times: u32, size: usize) -> usize
 // refusal.
 #[unsafe(no_mangle)]
 pub extern "C" fn slip_timing_check(log: &[u8], slip: &[u8], times: u32) -> u32
-    ensures { (times ≡ 0 → result ≡ answer_of (end_of (lent log)).refusal 0)
-        × (0 < times → times ≤ 2147483647 → result ≡ slip_checked (lent log) (lent slip)) }
+    ensures { (times ≡ 0 → result ≡ answer_of (end_of log.now).refusal 0)
+        × (0 < times → times ≤ 2147483647 → result ≡ slip_checked log.now slip.now) }
 {
     let end = run_log(log);
     if end.refusal != 0 {
@@ -63,10 +62,10 @@ pub extern "C" fn slip_timing_write(
     slip: &mut [u8],
     times: u32,
 ) -> u32
-    ensures { (times ≡ 0 → (result ≡ answer_of (end_of (lent log)).refusal 0) × (given slip ≡ lent slip))
-        × (0 < times → times ≤ 2147483647 → (result ≡ slip_written (lent log) office block (lent slip))
-        × (given slip ≡ slip_after (lent log) office block (lent slip)))
-        × (length (given slip) ≡ length (lent slip)) }
+    ensures { (times ≡ 0 → (result ≡ answer_of (end_of log.now).refusal 0) × (slip.new ≡ slip.old))
+        × (0 < times → times ≤ 2147483647 → (result ≡ slip_written log.now office block slip.old)
+        × (slip.new ≡ slip_after log.now office block slip.old))
+        × (length slip.new ≡ length slip.old) }
 {
     let end = run_log(log);
     if end.refusal != 0 {

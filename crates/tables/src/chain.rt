@@ -1,6 +1,5 @@
 // Chains of blocks, and the search for a longer one.
 ghost use Rattle.std.specs.Prelude.{◌≡◌, true, ◌+◌, ◌-◌, ◌≤◌, ◌<◌, min, eqb, ltb, length, get_or};
-ghost use Rattle.words.specs.Lent.{lent, given};
 ghost use Rattle.words.specs.Tests.{choose, either};
 ghost use Rattle.tables.specs.Blocks.{parent_in, epoch_in};
 ghost use Rattle.tables.specs.Chains.{chain_by};
@@ -12,7 +11,7 @@ use crate::view::{View, signers_of, view_of};
 
 // The length of block b's chain, genesis not counted.
 pub fn length_of<'a>(parents: &'a [u8; 256], last: u8, b: u8) -> u8
-    ensures { result ≡ length (chain_by (parent_in (lent parents) last) b) }
+    ensures { result ≡ length (chain_by (parent_in parents.now last) b) }
 {
     let mut climbed = 0;
     let mut at = b;
@@ -27,8 +26,8 @@ pub fn length_of<'a>(parents: &'a [u8; 256], last: u8, b: u8) -> u8
 // other's number, which no chain is longer than: a climb as far as the other block tells. Else the lengths do.
 pub fn is_shorter<'a>(parents: &'a [u8; 256], last: u8, b: u8, other: u8) -> bool
     ensures { result ≡ ltb
-        (length (chain_by (parent_in (lent parents) last) b))
-        (length (chain_by (parent_in (lent parents) last) other)) }
+        (length (chain_by (parent_in parents.now last) b))
+        (length (chain_by (parent_in parents.now last) other)) }
 {
     let mut climbed = 0u8;
     let mut at = b;
@@ -63,7 +62,7 @@ fn is_certified<'a>(
     known: u32,
 ) -> bool
     requires { enough_in known n ≡ true }
-    ensures { result ≡ certified_by (parent_in (lent parents) last) (epoch_in (lent epochs) last) (λ _. enough_in set n) b }
+    ensures { result ≡ certified_by (parent_in parents.now last) (epoch_in epochs.now last) (λ _. enough_in set n) b }
 {
     let parent = parent_at(parents, last, b);
     if epoch_at(epochs, last, b) <= epoch_at(epochs, last, parent) {
@@ -87,7 +86,7 @@ fn is_certified_aside<'a>(
     known: u32,
 ) -> bool
     requires { enough_in known n ≡ true }
-    ensures { result ≡ certified_by (parent_in (lent parents) last) (epoch_in (lent epochs) last) (λ _. enough_in set n) b }
+    ensures { result ≡ certified_by (parent_in parents.now last) (epoch_in epochs.now last) (λ _. enough_in set n) b }
 {
     if (set == 0) & (0 < n) {
         return false;
@@ -114,7 +113,7 @@ fn rank_of<'a>(
     base: u8,
 ) -> u16
     requires { n ≤ offices }
-    ensures { result ≡ rank_above (lent view) (lent parents) (lent epochs) last n b base }
+    ensures { result ≡ rank_above view.now parents.now epochs.now last n b base }
 {
     let mut climbed = 0;
     let mut at = b;
@@ -144,8 +143,8 @@ fn first_climb<'a>(
     passed: &mut [u8; 256],
 ) -> u16
     requires { (n ≤ offices) × PassedFrom view.now parents.now epochs.now last n b starts.old passed.old }
-    ensures { (result ≡ rank_above (lent view) (lent parents) (lent epochs) last n b 0)
-        × PassedFrom (lent view) (lent parents) (lent epochs) last n b (given starts) (given passed) }
+    ensures { (result ≡ rank_above view.now parents.now epochs.now last n b 0)
+        × PassedFrom view.now parents.now epochs.now last n b starts.new passed.new }
 {
     let mut climbed = 0;
     let mut at = b;
@@ -166,7 +165,7 @@ fn first_climb<'a>(
 
 // The rank that is kept of a block.
 fn kept_rank<'a>(ranks: &'a [u8; 256], b: u8) -> u8
-    ensures { result ≡ get_or (lent ranks) b 0 }
+    ensures { result ≡ get_or ranks.now b 0 }
 {
     ranks[b as usize]
 }
@@ -200,7 +199,7 @@ fn is_outranked<'a>(
 ) -> bool
     requires { (n ≤ offices) × (0 < beat) × (beat ≡ rank_above view.now parents.now epochs.now last n b 0)
         × PassedFrom view.now parents.now epochs.now last n b starts.old passed.old }
-    ensures { result ≡ outranked (lent view) (lent parents) (lent epochs) last n beat }
+    ensures { result ≡ outranked view.now parents.now epochs.now last n beat }
 {
     let mut found = false;
     let mut known = EVERYONE;
@@ -249,7 +248,7 @@ pub fn is_longest<'a>(
     n: u8,
     b: u8,
 ) -> bool
-    ensures { result ≡ longest_in (lent view) (lent parents) (lent epochs) last (min n offices) b }
+    ensures { result ≡ longest_in view.now parents.now epochs.now last (min n offices) b }
 {
     let few = office_count(n);
     let mut starts = [0u8; 256];
@@ -299,8 +298,8 @@ pub fn is_notarised_above<'a>(
     b: u8,
     base: u8,
 ) -> bool
-    ensures { result ≡ certified_above (view_in (lent places) (lent signers) (lent about) (min count messages) q)
-        (lent parents) (lent epochs) last (min n offices) b base }
+    ensures { result ≡ certified_above (view_in places.now signers.now about.now (min count messages) q)
+        parents.now epochs.now last (min n offices) b base }
 {
     let few = office_count(n);
     let mut at = b;

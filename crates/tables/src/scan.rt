@@ -1,6 +1,5 @@
 // What the columns say of one block or one message: a look at an entry, and walks that look for one.
 ghost use Rattle.std.specs.Prelude.{◌≡◌, false, not, ◌+◌, ◌%◌, ◌≤◌, ◌<◌, min, eqb, get_or};
-ghost use Rattle.words.specs.Lent.{lent};
 ghost use Rattle.words.specs.Tests.{both, either, any};
 ghost use Rattle.words.specs.Digits.{digit};
 ghost use Rattle.tables.specs.Blocks.{trusted_in, made_in, parent_in, epoch_in, matches_in, named_in};
@@ -31,7 +30,7 @@ pub fn is_made(last: u8, b: u8) -> bool
 
 // The parent of block b; genesis where b has none, or where its entry names no smaller block.
 pub fn parent_at<'a>(parents: &'a [u8; 256], last: u8, b: u8) -> u8
-    ensures { result ≡ parent_in (lent parents) last b }
+    ensures { result ≡ parent_in parents.now last b }
 {
     let parent = parents[b as usize];
     if is_made(last, b) & (parent < b) {
@@ -42,7 +41,7 @@ pub fn parent_at<'a>(parents: &'a [u8; 256], last: u8, b: u8) -> u8
 
 // The epoch of block b; genesis has epoch 0.
 pub fn epoch_at<'a>(epochs: &'a [u16; 256], last: u8, b: u8) -> u16
-    ensures { result ≡ epoch_in (lent epochs) last b }
+    ensures { result ≡ epoch_in epochs.now last b }
 {
     if is_made(last, b) {
         return epochs[b as usize];
@@ -61,7 +60,7 @@ fn is_match<'a>(
     e: u16,
     w: u16,
 ) -> bool
-    ensures { result ≡ matches_in (lent parents) (lent epochs) (lent payloads) last p e w b }
+    ensures { result ≡ matches_in parents.now epochs.now payloads.now last p e w b }
 {
     let parent = parent_at(parents, last, b);
     let epoch = epoch_at(epochs, last, b);
@@ -73,7 +72,7 @@ fn is_match<'a>(
 fn may_match<'a>(epochs: &'a [u16; 256], payloads: &'a [u16; 256], b: usize, e: u16, w: u16) -> bool
     requires { b < blocks }
     ensures { result ≡ either (not (eqb (b % 32) 0))
-        (any 32 (λ i. both (eqb (get_or (lent epochs) (b + i) 0) e) (eqb (get_or (lent payloads) (b + i) 0) w))) }
+        (any 32 (λ i. both (eqb (get_or epochs.now (b + i) 0) e) (eqb (get_or payloads.now (b + i) 0) w))) }
 {
     if b % BLOCK_CHUNK != 0 {
         return true;
@@ -98,7 +97,7 @@ pub fn name_block<'a>(
     e: u16,
     w: u16,
 ) -> u16
-    ensures { result ≡ named_in (lent parents) (lent epochs) (lent payloads) last p e w }
+    ensures { result ≡ named_in parents.now epochs.now payloads.now last p e w }
 {
     let mut b = 0;
     while b <= last as usize {
@@ -117,7 +116,7 @@ pub fn name_block<'a>(
 // Message m has that signer and that block.
 fn says<'a>(signers: &'a [u8; 1024], about: &'a [u8; 1024], signer: u8, b: u8, m: usize) -> bool
     requires { m < 1024 }
-    ensures { result ≡ says_in (lent signers) (lent about) signer b m }
+    ensures { result ≡ says_in signers.now about.now signer b m }
 {
     (signers[m] == signer) & (about[m] == b)
 }
@@ -132,7 +131,7 @@ pub fn in_history<'a>(
     signer: u8,
     b: u8,
 ) -> bool
-    ensures { result ≡ history_in (lent votes) (lent signers) (lent about) (min count messages) vote signer b }
+    ensures { result ≡ history_in votes.now signers.now about.now (min count messages) vote signer b }
 {
     let sent = message_count(count);
     let mut found = false;
@@ -148,7 +147,7 @@ pub fn in_history<'a>(
 // compared at once.
 pub(crate) fn chunk_about<'a>(about: &'a [u8; 1024], from: usize, b: u8) -> bool
     requires { from ≤ 960 }
-    ensures { result ≡ any 64 (λ i. eqb (get_or (lent about) (from + i) 0) b) }
+    ensures { result ≡ any 64 (λ i. eqb (get_or about.now (from + i) 0) b) }
 {
     let mut found = false;
     let mut i = 0;
@@ -168,7 +167,7 @@ fn chunk_says<'a>(
     b: u8,
 ) -> bool
     requires { from ≤ 960 }
-    ensures { result ≡ any 64 (λ i. says_in (lent signers) (lent about) signer b (from + i)) }
+    ensures { result ≡ any 64 (λ i. says_in signers.now about.now signer b (from + i)) }
 {
     let mut found = false;
     let mut i = 0;
@@ -182,7 +181,7 @@ fn chunk_says<'a>(
 // One of the messages of the chunk that starts at `from` is in office q's view, the last stage. This loop has no branch either.
 fn chunk_seen<'a>(places: &'a [u64; 1024], from: usize, q: u8) -> bool
     requires { from ≤ 960 }
-    ensures { result ≡ any 64 (λ i. eqb (digit 4 (get_or (lent places) (from + i) 0) q) view) }
+    ensures { result ≡ any 64 (λ i. eqb (digit 4 (get_or places.now (from + i) 0) q) view) }
 {
     let mut found = false;
     let mut i = 0;
@@ -205,7 +204,7 @@ fn is_signature<'a>(
     m: usize,
 ) -> bool
     requires { m < 1024 }
-    ensures { result ≡ both (eqb (digit 4 (get_or (lent places) m 0) q) view) (says_in (lent signers) (lent about) signer b m) }
+    ensures { result ≡ both (eqb (digit 4 (get_or places.now m 0) q) view) (says_in signers.now about.now signer b m) }
 {
     if about[m] != b {
         return false;
@@ -230,7 +229,7 @@ fn chunk_signed<'a>(
     b: u8,
 ) -> bool
     requires { (from ≤ 960) × (size ≤ 64) × (signed_in places.now signers.now about.now from q signer b ≡ false) }
-    ensures { result ≡ signed_in (lent places) (lent signers) (lent about) (from + size) q signer b }
+    ensures { result ≡ signed_in places.now signers.now about.now (from + size) q signer b }
 {
     if !chunk_says(signers, about, from, signer, b) {
         return false;
@@ -271,7 +270,7 @@ pub fn is_signed<'a>(
     signer: u8,
     b: u8,
 ) -> bool
-    ensures { result ≡ signed_in (lent places) (lent signers) (lent about) (min count messages) q signer b }
+    ensures { result ≡ signed_in places.now signers.now about.now (min count messages) q signer b }
 {
     let sent = message_count(count);
     let mut from = 0;

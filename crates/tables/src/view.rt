@@ -1,6 +1,5 @@
 // An office's view: who signed each block.
 ghost use Rattle.std.specs.Prelude.{◌≡◌, true, ◌+◌, ◌≤◌, ◌<◌, min, eqb, get_or, set};
-ghost use Rattle.words.specs.Lent.{lent, given};
 ghost use Rattle.words.specs.Tests.{choose, both};
 ghost use Rattle.words.specs.Digits.{digit, with_member};
 ghost use Rattle.tables.specs.Messages.{view};
@@ -15,8 +14,8 @@ pub type View = [u32; 256];
 // One message more: where it is in office q's view, the last stage, its signer is among the signers of its block. A signer from 32 up is no
 // office, and no set has it. A block's number is below 256, which a caller that has it from a column learns here.
 fn note(sets: &mut View, place: u64, q: u8, signer: u8, about: u8)
-    ensures { (given sets ≡ choose (eqb (digit 4 place q) view)
-        (set (lent sets) about (with_member (get_or (lent sets) about 0) signer)) (lent sets)) × (about < blocks) }
+    ensures { (sets.new ≡ choose (eqb (digit 4 place q) view)
+        (set sets.old about (with_member (get_or sets.old about 0) signer)) sets.old) × (about < blocks) }
 {
     if words::is_last_stage(place, q) {
         let b = about as usize;
@@ -33,7 +32,7 @@ pub fn view_of<'a>(
     count: usize,
     q: u8,
 ) -> View
-    ensures { result ≡ view_in (lent places) (lent signers) (lent about) (min count messages) q }
+    ensures { result ≡ view_in places.now signers.now about.now (min count messages) q }
 {
     let sent = message_count(count);
     let mut sets = [0u32; 256];
@@ -73,7 +72,7 @@ fn chunk_signers<'a>(
     set: u32,
 ) -> u32
     requires { (from ≤ 960) × (size ≤ 64) × (set ≡ signers_in places.now signers.now about.now from q b) }
-    ensures { result ≡ signers_in (lent places) (lent signers) (lent about) (from + size) q b }
+    ensures { result ≡ signers_in places.now signers.now about.now (from + size) q b }
 {
     let mut all = set;
     let mut i = 0;
@@ -105,7 +104,7 @@ pub(crate) fn signers_of<'a>(
     q: u8,
     b: u8,
 ) -> Single
-    ensures { (result.known ≡ true → result.set ≡ signers_in (lent places) (lent signers) (lent about) (min count messages) q b)
+    ensures { (result.known ≡ true → result.set ≡ signers_in places.now signers.now about.now (min count messages) q b)
         × (b < blocks) }
 {
     let sent = message_count(count);

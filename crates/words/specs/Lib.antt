@@ -3,4 +3,3 @@ pub mod Tests
 pub mod Sums
 pub mod Digits
 pub mod Refusals
-pub mod Lent

@@ -1,6 +1,5 @@
 // Bad send: an untrusted office sends what it likes, but for the signatures of trusted offices that they never sent.
 ghost use Rattle.std.specs.Prelude.{◌≡◌, []};
-ghost use Rattle.words.specs.Lent.{lent};
 ghost use Rattle.words.specs.Refusals.{first};
 ghost use Rattle.register.specs.Types.{Step};
 ghost use Rattle.register.specs.Tables.{is_vote};
@@ -39,7 +38,7 @@ fn is_forged<'a>(
 ) -> bool
     requires { Counted scalars }
     ensures { result ≡ forged
-        (lent_book scalars [] no_blocks (messages (lent votes) (lent signers) (lent about) []))
+        (lent_book scalars [] no_blocks (messages votes.now signers.now about.now []))
         kind signer.0 b.0 }
 {
     if !tables::trusted_at(scalars.n, scalars.trust, signer.0) {
@@ -62,7 +61,7 @@ fn bad_send_refusal<'a>(
 ) -> u8
     requires { Counted scalars }
     ensures { result ≡ first (bad_send
-        (lent_book scalars [] no_blocks (messages (lent votes) (lent signers) (lent about) []))
+        (lent_book scalars [] no_blocks (messages votes.now signers.now about.now []))
         sender kind signer b).tests }
 {
     if (scalars.n <= sender.0) | (scalars.n <= signer.0) {
@@ -97,7 +96,7 @@ pub(crate) fn bad_send<'a>(
 ) -> Change
     requires { Counted scalars }
     ensures { result ≡ change_by unchanged
-        (lent_book scalars [] no_blocks (messages (lent votes) (lent signers) (lent about) []))
+        (lent_book scalars [] no_blocks (messages votes.now signers.now about.now []))
         (Step.BadSend sender kind signer b) }
 {
     let refusal = bad_send_refusal(scalars, votes, signers, about, sender, kind, signer, b);

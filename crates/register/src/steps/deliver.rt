@@ -1,6 +1,5 @@
 // Deliver: a message moves from transit to the inbox.
 ghost use Rattle.std.specs.Prelude.{◌≡◌, []};
-ghost use Rattle.words.specs.Lent.{lent};
 ghost use Rattle.words.specs.Refusals.{first};
 ghost use Rattle.register.specs.Types.{Step};
 ghost use Rattle.register.specs.Steps.{deliver};
@@ -19,7 +18,7 @@ use tables::{INBOX, TRANSIT};
 fn deliver_refusal(scalars: Scalars, places: &Places, message: Message, office: Office) -> u8
     requires { Counted scalars }
     ensures { result ≡ first
-        (deliver (lent_book scalars [] no_blocks (messages [] [] [] (lent places))) message office).tests }
+        (deliver (lent_book scalars [] no_blocks (messages [] [] [] places.now)) message office).tests }
 {
     if scalars.n <= office.0 {
         return refusal::NO_OFFICE;
@@ -43,7 +42,7 @@ pub(crate) fn deliver(
 ) -> Change
     requires { Counted scalars }
     ensures { result ≡ change_by unchanged
-        (lent_book scalars [] no_blocks (messages [] [] [] (lent places))) (Step.Deliver message office) }
+        (lent_book scalars [] no_blocks (messages [] [] [] places.now)) (Step.Deliver message office) }
 {
     let refusal = deliver_refusal(scalars, places, message, office);
     if refusal != 0 {

@@ -1,6 +1,5 @@
 // Draft: names a block, sends nothing.
 ghost use Rattle.std.specs.Prelude.{◌≡◌, []};
-ghost use Rattle.words.specs.Lent.{lent};
 ghost use Rattle.register.specs.Types.{Step};
 ghost use Rattle.register.specs.Lent.{Counted, lent_book, blocks, no_messages};
 ghost use Rattle.register.specs.Changes.{change_by};
@@ -26,7 +25,7 @@ pub(crate) fn draft<'a>(
 ) -> Change
     requires { Counted scalars }
     ensures { result ≡ change_by unchanged
-        (lent_book scalars [] (blocks (lent parents) (lent epochs) (lent payloads)) no_messages)
+        (lent_book scalars [] (blocks parents.now epochs.now payloads.now) no_messages)
         (Step.Draft parent epoch payload) }
 {
     let last = scalars.last.0;

@@ -1,6 +1,5 @@
 // What a vote and a proposal have in common: the office acts, once an epoch, on a longest notarised chain.
 ghost use Rattle.std.specs.Prelude.{◌≡◌, true, [], ◌∷◌, leb};
-ghost use Rattle.words.specs.Lent.{lent};
 ghost use Rattle.words.specs.Refusals.{◌⇒◌, first};
 ghost use Rattle.tables.specs.Blocks.{trusted_in, epoch_in};
 ghost use Rattle.register.specs.Refusals.{leads, not_longest};
@@ -14,7 +13,7 @@ use crate::sorts::{Block, Epoch, Office};
 // The office is the leader of the current epoch.
 pub(crate) fn leads(scalars: Scalars, leaders: &Leaders, office: Office) -> bool
     requires { Counted scalars }
-    ensures { result ≡ leads (lent_book scalars (lent leaders) no_blocks no_messages) office.0 }
+    ensures { result ≡ leads (lent_book scalars leaders.now no_blocks no_messages) office.0 }
 {
     let epoch = scalars.epoch.0 as usize;
     leaders[epoch - 1] == office.0
@@ -36,10 +35,10 @@ pub(crate) fn extending_refusal<'a>(
     requires { Counted scalars × (trusted_in scalars.n scalars.trust office.0 ≡ true) }
     ensures { result ≡ first
         ((not_longest
-        (lent_book scalars [] (blocks (lent parents) (lent epochs) [])
-        (messages [] (lent signers) (lent about) (lent places)))
+        (lent_book scalars [] (blocks parents.now epochs.now [])
+        (messages [] signers.now about.now places.now))
         office.0 parent.0 ⇒ 19)
-        ∷ (leb epoch.0 (epoch_in (lent epochs) scalars.last.0 parent.0) ⇒ 20)
+        ∷ (leb epoch.0 (epoch_in epochs.now scalars.last.0 parent.0) ⇒ 20)
         ∷ []) }
 {
     let last = scalars.last.0;

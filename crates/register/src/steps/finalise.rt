@@ -1,6 +1,5 @@
 // Finalise: an office's final block becomes the parent of a block that meets the condition, unless its final chain would get shorter.
 ghost use Rattle.std.specs.Prelude.{◌≡◌, true, []};
-ghost use Rattle.words.specs.Lent.{lent};
 ghost use Rattle.words.specs.Refusals.{first};
 ghost use Rattle.tables.specs.Blocks.{trusted_in, epoch_in};
 ghost use Rattle.register.specs.Types.{Step};
@@ -19,7 +18,7 @@ use crate::table::OfficeState;
 
 // The blocks b, c and d are consecutive. Only the oldest, d, may be genesis, whose epoch is 0.
 pub fn are_consecutive<'a>(epochs: &'a Epochs, last: Block, b: Block, c: Block, d: Block) -> bool
-    ensures { result ≡ consecutive (epoch_in (lent epochs) last.0) b.0 c.0 d.0 }
+    ensures { result ≡ consecutive (epoch_in epochs.now last.0) b.0 c.0 d.0 }
 {
     let newest = tables::epoch_at(epochs, last.0, b.0) as u32;
     let middle = tables::epoch_at(epochs, last.0, c.0) as u32;
@@ -46,8 +45,8 @@ fn is_final<'a>(
         (lent_book scalars [] (blocks parents.now epochs.now []) (messages [] signers.now about.now places.now))
         office.0 base.0 }
     ensures { result ≡ finalises
-        (lent_book scalars [] (blocks (lent parents) (lent epochs) [])
-        (messages [] (lent signers) (lent about) (lent places)))
+        (lent_book scalars [] (blocks parents.now epochs.now [])
+        (messages [] signers.now about.now places.now))
         office.0 newest.0 }
 {
     let last = scalars.last;
@@ -81,8 +80,8 @@ fn finalise_refusal<'a>(
         (lent_book scalars [] (blocks parents.now epochs.now []) (messages [] signers.now about.now places.now))
         office.0 base.0 }
     ensures { result ≡ first (finalise
-        (held_book scalars [] (blocks (lent parents) (lent epochs) [])
-        (messages [] (lent signers) (lent about) (lent places)) state)
+        (held_book scalars [] (blocks parents.now epochs.now [])
+        (messages [] signers.now about.now places.now) state)
         office newest).tests }
 {
     if scalars.n <= office.0 {
@@ -124,8 +123,8 @@ pub(crate) fn finalise<'a>(
         (lent_book scalars [] (blocks parents.now epochs.now []) (messages [] signers.now about.now places.now))
         office.0 base.0 }
     ensures { result ≡ change_by unchanged
-        (held_book scalars [] (blocks (lent parents) (lent epochs) [])
-        (messages [] (lent signers) (lent about) (lent places)) unchanged.office.state)
+        (held_book scalars [] (blocks parents.now epochs.now [])
+        (messages [] signers.now about.now places.now) unchanged.office.state)
         (Step.Finalise office newest) }
 {
     let refusal = finalise_refusal(

@@ -1,6 +1,5 @@
 // Any step, as the change that it makes.
 ghost use Rattle.std.specs.Prelude.{◌≡◌, true, []};
-ghost use Rattle.words.specs.Lent.{lent};
 ghost use Rattle.register.specs.Lent.{Counted, lent_book, whole_book, blocks, messages};
 ghost use Rattle.register.specs.Changes.{unchanged_of, ChangeFor};
 ghost use Rattle.register.specs.Settled.{Acts};
@@ -28,8 +27,8 @@ fn unchanged<'a>(
     actor: Actor,
 ) -> Change
     ensures { result ≡ unchanged_of
-        (lent_book scalars [] (blocks (lent parents) (lent epochs) (lent payloads))
-        (messages (lent votes) (lent signers) (lent about) (lent places)))
+        (lent_book scalars [] (blocks parents.now epochs.now payloads.now)
+        (messages votes.now signers.now about.now places.now))
         actor.at actor.state }
 {
     let epoch = scalars.epoch;
@@ -94,8 +93,8 @@ pub(crate) fn judge<'a>(
         (messages votes.now signers.now about.now places.now))
         step actor }
     ensures { ChangeFor fits
-        (whole_book scalars (lent leaders) (blocks (lent parents) (lent epochs) (lent payloads))
-        (messages (lent votes) (lent signers) (lent about) (lent places)))
+        (whole_book scalars leaders.now (blocks parents.now epochs.now payloads.now)
+        (messages votes.now signers.now about.now places.now))
         actor.at actor.state step result }
 {
     let same = unchanged(

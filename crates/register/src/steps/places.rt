@@ -1,6 +1,5 @@
 // Where a message stands for an office.
 ghost use Rattle.std.specs.Prelude.{◌≡◌, true, [], ◌<◌};
-ghost use Rattle.words.specs.Lent.{lent};
 ghost use Rattle.tables.specs.Blocks.{trusted_in};
 ghost use Rattle.register.specs.Views.{stage};
 ghost use Rattle.register.specs.Refusals.{entered};
@@ -16,7 +15,7 @@ use crate::sorts::{Message, Office};
 pub(crate) fn stage_of(scalars: Scalars, places: &Places, office: Office, message: Message) -> u8
     requires { Counted scalars }
     ensures { result ≡ stage
-        (lent_book scalars [] no_blocks (messages [] [] [] (lent places))) office.0 message.0 }
+        (lent_book scalars [] no_blocks (messages [] [] [] places.now)) office.0 message.0 }
 {
     if message.0 >= scalars.count {
         return tables::ABSENT;
@@ -40,7 +39,7 @@ pub(crate) fn is_entered<'a>(
         × (message.0 < most_messages)
         × (trusted_in scalars.n scalars.trust office.0 ≡ true) }
     ensures { result ≡ entered
-        (lent_book scalars [] no_blocks (messages [] (lent signers) (lent about) (lent places)))
+        (lent_book scalars [] no_blocks (messages [] signers.now about.now places.now))
         office.0 message.0 }
 {
     let at = message.0 as usize;

@@ -1,6 +1,5 @@
 // Propose: the leader names a block of the current epoch and sends its proposal.
 ghost use Rattle.std.specs.Prelude.{◌≡◌, []};
-ghost use Rattle.words.specs.Lent.{lent};
 ghost use Rattle.words.specs.Refusals.{first, until};
 ghost use Rattle.register.specs.Types.{Step};
 ghost use Rattle.register.specs.Steps.{propose};
@@ -28,7 +27,7 @@ fn leader_refusal(
 ) -> u8
     requires { Counted scalars }
     ensures { result ≡ first (until 19
-        (propose (lent_book scalars (lent leaders) no_blocks no_messages) office parent payload).tests) }
+        (propose (lent_book scalars leaders.now no_blocks no_messages) office parent payload).tests) }
 {
     if scalars.n <= office.0 {
         return refusal::NO_OFFICE;
@@ -63,8 +62,8 @@ fn parent_refusal<'a>(
 ) -> u8
     requires { Counted scalars }
     ensures { result ≡ first (until 25 (propose
-        (lent_book scalars (lent leaders) (blocks (lent parents) (lent epochs) [])
-        (messages [] (lent signers) (lent about) (lent places)))
+        (lent_book scalars leaders.now (blocks parents.now epochs.now [])
+        (messages [] signers.now about.now places.now))
         office parent payload).tests) }
 {
     let early = leader_refusal(scalars, leaders, office, parent, payload);
@@ -94,8 +93,8 @@ pub(crate) fn propose<'a>(
 ) -> Change
     requires { Counted scalars }
     ensures { result ≡ change_by unchanged
-        (lent_book scalars (lent leaders) (blocks (lent parents) (lent epochs) (lent payloads))
-        (messages [] (lent signers) (lent about) (lent places)))
+        (lent_book scalars leaders.now (blocks parents.now epochs.now payloads.now)
+        (messages [] signers.now about.now places.now))
         (Step.Propose office parent payload) }
 {
     let refusal = parent_refusal(

@@ -1,6 +1,5 @@
 // Register: a vote moves from the inbox to the view.
 ghost use Rattle.std.specs.Prelude.{◌≡◌, []};
-ghost use Rattle.words.specs.Lent.{lent};
 ghost use Rattle.words.specs.Refusals.{first};
 ghost use Rattle.register.specs.Types.{Step};
 ghost use Rattle.register.specs.Steps.{register};
@@ -27,7 +26,7 @@ fn register_refusal<'a>(
 ) -> u8
     requires { Counted scalars }
     ensures { result ≡ first (register
-        (lent_book scalars [] no_blocks (messages (lent votes) (lent signers) (lent about) (lent places)))
+        (lent_book scalars [] no_blocks (messages votes.now signers.now about.now places.now))
         office message).tests }
 {
     if scalars.n <= office.0 {
@@ -64,7 +63,7 @@ pub(crate) fn register<'a>(
 ) -> Change
     requires { Counted scalars }
     ensures { result ≡ change_by unchanged
-        (lent_book scalars [] no_blocks (messages (lent votes) (lent signers) (lent about) (lent places)))
+        (lent_book scalars [] no_blocks (messages votes.now signers.now about.now places.now))
         (Step.Register office message) }
 {
     let refusal = register_refusal(scalars, votes, signers, about, places, office, message);

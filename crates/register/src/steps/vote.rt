@@ -1,6 +1,5 @@
 // Vote: a proposal moves from the inbox to the view, and a vote for its block is sent.
 ghost use Rattle.std.specs.Prelude.{◌≡◌, [], ◌<◌};
-ghost use Rattle.words.specs.Lent.{lent};
 ghost use Rattle.words.specs.Refusals.{first, until};
 ghost use Rattle.register.specs.Types.{Step};
 ghost use Rattle.register.specs.Refusals.{off_epoch};
@@ -30,8 +29,8 @@ fn is_off_epoch<'a>(
 ) -> bool
     requires { Counted scalars × (message.0 < most_messages) }
     ensures { result ≡ off_epoch
-        (lent_book scalars (lent leaders) (blocks [] (lent epochs) [])
-        (messages [] (lent signers) (lent about) []))
+        (lent_book scalars leaders.now (blocks [] epochs.now [])
+        (messages [] signers.now about.now []))
         message.0 }
 {
     let at = message.0 as usize;
@@ -55,8 +54,8 @@ fn proposal_refusal<'a>(
 ) -> u8
     requires { Counted scalars }
     ensures { result ≡ first (until 18 (vote
-        (lent_book scalars (lent leaders) (blocks [] (lent epochs) [])
-        (messages (lent votes) (lent signers) (lent about) (lent places)))
+        (lent_book scalars leaders.now (blocks [] epochs.now [])
+        (messages votes.now signers.now about.now places.now))
         office message).tests) }
 {
     if scalars.n <= office.0 {
@@ -101,8 +100,8 @@ fn vote_refusal<'a>(
 ) -> u8
     requires { Counted scalars }
     ensures { result ≡ first (vote
-        (lent_book scalars (lent leaders) (blocks (lent parents) (lent epochs) [])
-        (messages (lent votes) (lent signers) (lent about) (lent places)))
+        (lent_book scalars leaders.now (blocks parents.now epochs.now [])
+        (messages votes.now signers.now about.now places.now))
         office message).tests }
 {
     let early = proposal_refusal(
@@ -146,8 +145,8 @@ pub(crate) fn vote<'a>(
 ) -> Change
     requires { Counted scalars }
     ensures { result ≡ change_by unchanged
-        (lent_book scalars (lent leaders) (blocks (lent parents) (lent epochs) [])
-        (messages (lent votes) (lent signers) (lent about) (lent places)))
+        (lent_book scalars leaders.now (blocks parents.now epochs.now [])
+        (messages votes.now signers.now about.now places.now))
         (Step.Vote office message) }
 {
     let refusal = vote_refusal(
