@@ -4,7 +4,7 @@ use mathlib.Core.Path.{◌≡◌, refl, sym, ◌∙◌}
 use mathlib.Core.Bool.{true, false}
 use native.Mathlib.Omega.{arith}
 use borrow.Author.Count.{below_more}
-use borrow.Author.Tests.{ne_eqb, lt-ltb, le-ltb, not-true, not-false}
+use borrow.Author.Tests.{ne_eqb, lt-ltb, le-ltb}
 use lib.Dec.{eqb}
 use Rattle.words.specs.Tests.{either}
 use Rattle.words.proofs.Tests.{any_make, any_fails}
@@ -22,7 +22,7 @@ abbrev rank : Start → ℕ → ℕ
 rank s = Rank s.args.view.now s.args.parents.now s.args.epochs.now s.args.last s.args.n
 
 -- what a climb that comes to a block passed before tells: the rank of the block that it started from
-joined : (c : After-joined_rank-rank) → c.joined_rank-rank.result ≡ rank c.before.before.before.before.before.before.before.before.before.before.before.before.before (c.walk.x + 1)
+joined : (c : After-joined_rank-rank) → c.joined_rank-rank.result ≡ rank c.before.before.before.before.before.before.before.before.before.before.before.before.before.before (c.walk.x + 1)
 joined c =
     let turn = c.climb in
     climb_joined _ _ _ _ _ _ _ turn.invariant.3 _ c.if-down-gt0.true turn.invariant.4 (rw (← c.kept_rank-other.ensures) c.joined_rank-rank.ensures)

@@ -1,14 +1,13 @@
 use borrow.Author.Rules.{rules}
-use Prim.Native.Nat.{◌+◌, ◌-◌, ◌≤◌, min}
+use Prim.Native.Nat.{◌+◌, ◌≤◌, min}
 use mathlib.Core.Path.{◌≡◌, refl, sym, ◌∙◌}
 use mathlib.Core.Bool.{true≢false}
-use mathlib.Core.Logic.{inl, inr}
 use native.Mathlib.Omega.{arith}
 use Rattle.tables.specs.Searches.{messages, signers_in}
 use Rattle.tables.proofs.Scans.{past_chunk}
 use Rattle.tables.proofs.Views.{signers_none, signers_past}
 use Rattle.tables.proofs.view.signers_of.Goals as goal
-use Rattle.tables.proofs.view.signers_of.Goals.{Joined-chunk_about}
+use Rattle.tables.proofs.view.signers_of.Goals.{Joined-chunk_about, then-chunk_about+else-read-eq-FEW, else-chunk_about}
 
 -- past a chunk the set holds the signers by its messages too: they were read, or none is about the block
 abbrev Held : Joined-chunk_about → Type 0
@@ -23,11 +22,11 @@ held c =
     let turn = c.loop-from in
     let a = c.args in
     elim c.if-chunk_about.branch as (λ _. Held c) [
-      | inl w ↦ (rw w.3 w.2.ensures, rw w.4 (omega (arith, turn.invariant.2, w.1.left)))
-      | inr w ↦ (
-        w.1 ∙ signers_past a.places.now a.signers.now a.about.now a.q a.b _ _ _ (search rules) turn.invariant.1
-            (sym c.chunk_about.ensures ∙ w.0.left),
-        rw w.2 turn.invariant.2,
+      | then-chunk_about+else-read-eq-FEW w ↦ (rw w.set-is w.chunk_signers-set.ensures, rw w.read-is (omega (arith, turn.invariant.2, w.if-read-eq-FEW.false)))
+      | else-chunk_about w ↦ (
+        w.set-is ∙ signers_past a.places.now a.signers.now a.about.now a.q a.b _ _ _ (search rules) turn.invariant.1
+            (sym c.chunk_about.ensures ∙ w.if-chunk_about.false),
+        rw w.read-is turn.invariant.2,
       )
     ]
 
