@@ -13,6 +13,3 @@ pub mod OpeningsReadBack
 pub mod LogsReadBack
 pub mod Claims
 pub mod MarkedCases
--- What the walks of a reader's methods share, and what a walk needs that has a reader in a local.
-pub mod ReaderLaws
-pub mod LocalReader

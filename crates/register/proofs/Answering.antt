@@ -19,7 +19,7 @@ use Rattle.tables.proofs.Scans.{named_most}
 use Rattle.register.specs.Types.{Step, OfficeState, Book, Scalars, Change}
 use Rattle.register.specs.Books.{block, scalars_of}
 use Rattle.register.specs.Tables.{trusted}
-use Rattle.register.specs.Views.{stage, signed, signers, notarised}
+use Rattle.register.specs.Views.{stage, signed, notarised}
 use Rattle.register.specs.Chains.{chain, chain_notarised_by, chain_notarised, longer, longest}
 use Rattle.register.specs.Refusals.{finalises, behind}
 use Rattle.register.specs.Steps.{rule_of}

@@ -8,7 +8,7 @@ use lib.ListN.{length, get_or, set, length-set}
 use Rattle.words.specs.Tests.{choose}
 use Rattle.words.specs.Digits.{with_member}
 use Rattle.words.specs.Refusals.{first}
-use Rattle.register.specs.Types.{Office, Epoch, Block, Message, Step, Header, Content, OfficeState, Register, Book}
+use Rattle.register.specs.Types.{Office, Epoch, Block, Message, Step, Header, Content, OfficeState, Book}
 use Rattle.register.specs.Books.{block, epoch, blocks_of, changed, book_of}
 use Rattle.register.specs.Tables.{trusted}
 use Rattle.register.specs.Fitness.{fit}

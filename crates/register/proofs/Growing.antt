@@ -13,7 +13,6 @@ use Rattle.words.specs.Digits.{digit, with_member, with_stage}
 use Rattle.words.proofs.Digits.{stage_put}
 use Rattle.register.specs.Types.{Epoch, Step, Header, Content, OfficeState, Book}
 use Rattle.register.specs.Books.{epoch, blocks_of, messages_of, changed}
-use Rattle.register.specs.Tables.{trusted}
 use Rattle.register.specs.Views.{in_view, stage}
 use Rattle.register.specs.Effects.{with_block, with_named, with_sent, with_moved, with_acted, with_state, with_next_epoch}
 use Rattle.register.specs.Steps.{rule_of}

@@ -1,6 +1,6 @@
 -- What makers may rely on: the promises of specs/Promises.antt that are not about one step's fitness alone.
 use native.Mathlib.Omega.{arith}
-use mathlib.Core.Path.{◌≡◌, refl, ap, ◌∙◌, subst, subst⁻¹}
+use mathlib.Core.Path.{◌≡◌, refl, ap, ◌∙◌, subst⁻¹}
 use mathlib.Core.Bool.{false}
 use mathlib.Core.List.{List, [], ◌∷◌}
 use borrow.Author.Tests.{ne_eqb}
@@ -12,7 +12,6 @@ use Rattle.register.specs.Books.{book_of}
 use Rattle.register.specs.Fitness.{counts_fit, fit}
 use Rattle.register.specs.Opening.{blank, closed, opening}
 use Rattle.register.specs.Effects.{with_block, with_sent, with_moved, with_acted, with_state, with_next_epoch}
-use Rattle.register.specs.Steps.{register}
 use Rattle.register.specs.Steps.{refusal, judged, rule_of, book_rule, step_rule}
 use Rattle.register.specs.Runs.{after_steps, opened, moment}
 use Rattle.register.specs.Promises.{RunsAreFit, RefusedOpeningCloses, ClosedGetsFive, RefusedStepStays}

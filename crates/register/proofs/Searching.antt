@@ -22,7 +22,7 @@ use Rattle.tables.proofs.Searching.{certified_same, certified_above_lem}
 use Rattle.register.specs.Types.{Book}
 use Rattle.register.specs.Limits.{most_offices}
 use Rattle.register.specs.Tables.{trusted, parent_of, epoch_of}
-use Rattle.register.specs.Views.{stage, in_view, says, signed, signers, notarised}
+use Rattle.register.specs.Views.{stage, in_view, says, signed, notarised}
 use Rattle.register.specs.Chains.{chain, chain_length, chain_notarised_by, chain_notarised, longer, longest}
 
 -- a trusted office's view

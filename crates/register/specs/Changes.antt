@@ -1,5 +1,5 @@
 -- What a step changes, as the code passes it on. Only contracts inside this crate cite these definitions; no promise to makers does.
-use Rattle.std.specs.Prelude.{ℕ, ◌+◌, Bool, true, false, List, ◌≡◌, eqb, leb, get_or}
+use Rattle.std.specs.Prelude.{ℕ, ◌+◌, Bool, true, false, ◌≡◌, eqb, leb, get_or}
 use Rattle.words.specs.Tests.{choose}
 use Rattle.words.specs.Digits.{with_member, with_stage}
 use Rattle.words.specs.Refusals.{first}

@@ -7,15 +7,15 @@ use Rattle.register.proofs.entries.stage_numbered.Goals as goal
 
 pub returns-in-1 : goal.returns-in-1
 unfolding stage_numbered choose
-returns-in-1 c = rw c.in-1.keys1
+returns-in-1 c = rw c.in-1.is
 
 pub returns-in-2 : goal.returns-in-2
 unfolding stage_numbered choose
-returns-in-2 c = rw c.in-2.keys2
+returns-in-2 c = rw c.in-2.is
 
 pub returns-in-3 : goal.returns-in-3
 unfolding stage_numbered choose
-returns-in-3 c = rw c.in-3.keys3
+returns-in-3 c = rw c.in-3.is
 
 pub returns-in_default : goal.returns-in_default
 unfolding stage_numbered choose

@@ -1,12 +1,10 @@
 use borrow.Author.Rules.{rules}
-use Prim.Native.Nat.{◌-◌}
 use mathlib.Core.Path.{◌≡◌, refl}
 use native.Mathlib.Omega.{arith}
 use borrow.Author.Tests.{lt-ltb}
 use Rattle.words.specs.Tests.{both, all}
 use Rattle.words.proofs.Tests.{all_next, or_either}
 use Rattle.tables.specs.Blocks.{trusted_in}
-use Rattle.register.specs.Fitness.{state_fits}
 use Rattle.register.proofs.fitness.offices_fit.Goals as goal
 
 pub loop-q-init : goal.loop-q-init

@@ -7,4 +7,4 @@ pub returns : goal.returns
 returns c =
     let a = c.args in
     rw (c.view_of.ensures, c.signer_numbers-signer_column.ensures.0, c.about_numbers-about_column.ensures.0)
-    (view_most a.t1 _ _ a.count a.office.0 (omega arith))
+    (view_most a.places _ _ a.count a.office.0 (omega arith))

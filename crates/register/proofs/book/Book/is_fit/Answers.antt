@@ -1,7 +1,6 @@
 -- `Book::is_fit`: a count out of its range decides alone; else the tables decide.
 use mathlib.Core.Path.{◌≡◌, sym, ◌∙◌}
 use mathlib.Core.Bool.{true}
-use borrow.Author.Tests.{not-true, not-false}
 use Rattle.words.specs.Tests.{both, conj}
 use Rattle.register.specs.Books.{scalars_of}
 use Rattle.register.specs.Fitness.{counts_fit, fit}

@@ -1,5 +1,5 @@
 use borrow.Author.Rules.{rules}
-use Prim.Native.Nat.{◌-◌, ◌<◌}
+use Prim.Native.Nat.{◌<◌}
 use mathlib.Core.Path.{◌≡◌, refl}
 use native.Mathlib.Omega.{arith}
 use lib.ListN.{length, get_or}
@@ -19,7 +19,7 @@ use Rattle.register.proofs.book.Book.run.Goals as goal
 use Rattle.register.proofs.book.Book.run.Goals.{After-judge-arg-in-loop-i-7-1, After-judge-c, After-scalars, After-settled_base, In-loop-i, Start}
 
 -- a batch has all its steps
-long : (s : Start) → length s.args.t3 ≡ batch
+long : (s : Start) → length s.args.steps ≡ batch
 long s = omega arith
 
 -- in the loop i is below their number
@@ -28,7 +28,7 @@ below c = omega (arith, c.requires.2)
 
 -- the step of a turn, and the book that it is made on
 abbrev step : In-loop-i → Step
-step c = get_or c.args.t3 c.loop-i.i (Step.Propose (office 0) (block 0) 0)
+step c = get_or c.args.steps c.loop-i.i (Step.Propose (office 0) (block 0) 0)
 
 abbrev book : In-loop-i → Book
 book c = c.loop-i.self

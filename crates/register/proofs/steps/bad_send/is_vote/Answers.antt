@@ -5,8 +5,8 @@ use Rattle.register.proofs.steps.bad_send.is_vote.Goals as goal
 
 pub returns-in-Proposal : goal.returns-in-Proposal
 unfolding is_vote
-returns-in-Proposal c = sym (ap is_vote c.enum_told-1.given.1)
+returns-in-Proposal c = sym (ap is_vote c.in-Proposal.is)
 
 pub returns-in-Vote : goal.returns-in-Vote
 unfolding is_vote
-returns-in-Vote c = sym (ap is_vote c.enum_told-in-Vote-1.given.1)
+returns-in-Vote c = sym (ap is_vote c.in-Vote.is)

@@ -1,7 +1,6 @@
 -- `sent_place`: the spread word, in which a trusted sender's stage is its view.
 use borrow.Author.Rules.{rules}
 use mathlib.Core.Path.{sym, ◌∙◌}
-use borrow.Author.Tests.{not-true, not-false}
 use Rattle.register.proofs.SentPlace.{sent_untrusted, sent_trusted}
 use Rattle.register.proofs.steps.places.sent_place.Goals as goal
 

@@ -1,6 +1,6 @@
 -- `stage_of`: what was not sent is nowhere, an untrusted office keeps nothing, and else it is a digit of the word.
 use mathlib.Core.Path.{sym, ◌∙◌}
-use borrow.Author.Tests.{lt-ltb, le-ltb, not-true, not-false}
+use borrow.Author.Tests.{lt-ltb, le-ltb}
 use Rattle.words.specs.Tests.{choose, both}
 use Rattle.words.proofs.Tests.{both_none}
 use Rattle.register.specs.Views.{stage}

@@ -9,16 +9,12 @@ use Rattle.register.specs.Steps.{rule_of}
 use Rattle.register.specs.Changes.{entries_of}
 use Rattle.register.proofs.Answering.{refuses, accepts}
 use Rattle.register.proofs.steps.vote.vote.Goals as goal
-use Rattle.register.proofs.steps.vote.vote.Goals.{After-accepted, Else-refusal-ne0}
+use Rattle.register.proofs.steps.vote.vote.Goals.{Else-refusal-ne0}
 
 -- the message has been sent, where nothing was refused
 sent : (c : Else-refusal-ne0) → c.args.message.0 < 1024
 sent c =
     omega (arith, leb-false _ c.args.message.0 (clear _ (sym c.vote_refusal-refusal.ensures ∙ c.if-refusal-ne0.false)).1.0)
-
--- past the refusal, seen from the end
-abbrev before : After-accepted → Else-refusal-ne0
-before c = c.before.before.before.before.before.before.before.before.before.before.before
 
 pub returns-then-refusal-ne0 : goal.returns-then-refusal-ne0
 unfolding rule_of entries_of sent_stage
@@ -38,4 +34,4 @@ returns c =
     rw (c.accepted.ensures, c.acted.ensures, c.moved-sent.ensures)
     (rw (c.sent.ensures, c.with_stage-entered.ensures)
     (rw c.sent_place-word.ensures
-    (accepts _ _ _ _ (before (goal.at.returns c).After-accepted).vote_refusal-refusal.ensures (before (goal.at.returns c).After-accepted).if-refusal-ne0.false)))
+    (accepts _ _ _ _ c.vote_refusal-refusal.ensures c.if-refusal-ne0.false)))

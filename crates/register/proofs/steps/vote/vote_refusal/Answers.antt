@@ -18,7 +18,7 @@ use Rattle.register.specs.Views.{stage, signed}
 use Rattle.register.specs.Steps.{vote}
 use Rattle.register.proofs.Answering.{early, late, longest_searched}
 use Rattle.register.proofs.steps.vote.vote_refusal.Goals as goal
-use Rattle.register.proofs.steps.vote.vote_refusal.Goals.{After-extending_refusal-late, After-proposal_refusal-early, Else-early-ne0, Else-is_entered, Else-late-ne0, Start}
+use Rattle.register.proofs.steps.vote.vote_refusal.Goals.{After-extending_refusal-late, After-proposal_refusal-early, Else-early-ne0, Else-is_entered, Start}
 
 -- the book that is lent, and the tests of the vote that is asked for
 abbrev given : Start → Book
@@ -65,7 +65,7 @@ later c x rest =
 
 -- past 18, seen from behind the tests of the parent
 abbrev past_18 : After-extending_refusal-late → Else-is_entered
-past_18 c = c.before.before.before.before.before.before
+past_18 c = c.before.before.before.before.before.before.before
 
 -- the parent's, as they were found
 extends : (c : After-extending_refusal-late) → c.extending_refusal-late.result ≡ first (until 26 (since 19 (tests (start (past_18 c)))))
@@ -75,9 +75,10 @@ extends c =
     (rw (c.parent_at.ensures, c.epoch_at.ensures) at c.extending_refusal-late.ensures)
 
 -- past 20 that of the messages decides
-last : (c : Else-late-ne0) (x : ℕ) → x ≡ first (since 26 (tests (start (past_18 c.before)))) → x ≡ first (tests (start (past_18 c.before)))
+last : (c : After-extending_refusal-late) → c.extending_refusal-late.result ≡ 0 → (x : ℕ)
+    → x ≡ first (since 26 (tests (start (past_18 c)))) → x ≡ first (tests (start (past_18 c)))
 unfolding since choose positive both
-last c x rest = later (past_18 c.before) x (late 26 _ _ x refl (extends c.before) c.if-late-ne0.false rest)
+last c none x rest = later (past_18 c) x (late 26 _ _ x refl (extends c) none rest)
 
 pub returns-then-early-ne0 : goal.returns-then-early-ne0
 unfolding since choose stage signed
@@ -109,8 +110,8 @@ returns-then-late-ne0 c =
 
 pub returns-then-scalars-ge-MOST_MESSAGES : goal.returns-then-scalars-ge-MOST_MESSAGES
 unfolding since choose stage signed
-returns-then-scalars-ge-MOST_MESSAGES c = last (goal.at.returns-then-scalars-ge-MOST_MESSAGES c).Else-late-ne0 26 (search turns depth 3)
+returns-then-scalars-ge-MOST_MESSAGES c = last (goal.at.returns-then-scalars-ge-MOST_MESSAGES c).After-extending_refusal-late c.if-late-ne0.false 26 (search turns depth 3)
 
 pub returns : goal.returns
 unfolding since choose stage signed
-returns c = last (goal.at.returns c).Else-late-ne0 0 (search turns depth 3)
+returns c = last (goal.at.returns c).After-extending_refusal-late c.if-late-ne0.false 0 (search turns depth 3)

@@ -1,7 +1,6 @@
 -- `Register::final_block`: no office past the table is trusted.
 use native.Mathlib.Omega.{arith}
 use mathlib.Core.Path.{sym, ◌∙◌}
-use borrow.Author.Tests.{not-true, not-false}
 use Rattle.words.specs.Tests.{choose}
 use Rattle.words.proofs.Tests.{both_none}
 use Rattle.words.proofs.Digits.{digit_past}
@@ -13,7 +12,7 @@ pub returns-then-q-ge-OFFICES : goal.returns-then-q-ge-OFFICES
 unfolding book_of choose trusted_in
 returns-then-q-ge-OFFICES c =
     let a = c.args in
-    rw (digit_past 2 a.t1.trust 32 a.office.0 (omega arith) c.if-q-ge-OFFICES.true, both_none)
+    rw (digit_past 2 a.self.trust 32 a.office.0 (omega arith) c.if-q-ge-OFFICES.true, both_none)
 
 pub returns-then-not-trusted_at : goal.returns-then-not-trusted_at
 unfolding book_of choose

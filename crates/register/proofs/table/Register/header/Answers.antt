@@ -1,6 +1,5 @@
 -- `Register::header`: the entries of a block that was made, and zeros of any other.
 use mathlib.Core.Path.{sym, ◌∙◌}
-use borrow.Author.Tests.{not-true, not-false}
 use Rattle.register.specs.Books.{book_of}
 use Rattle.register.proofs.Telling.{header_none, header_found}
 use Rattle.register.proofs.table.Register.header.Goals as goal
@@ -9,10 +8,10 @@ pub returns-then-not-is_made : goal.returns-then-not-is_made
 unfolding book_of
 returns-then-not-is_made c =
     let a = c.args in
-    header_none a.t1 a.b.0 (sym c.is_made.ensures ∙ c.if-not-is_made.true)
+    header_none a.self a.b.0 (sym c.is_made.ensures ∙ c.if-not-is_made.true)
 
 pub returns : goal.returns
 unfolding book_of
 returns c =
     let a = c.args in
-    header_found a.t1 a.b.0 _ (sym c.is_made.ensures ∙ c.if-not-is_made.false) c.smaller-parent.ensures
+    header_found a.self a.b.0 _ (sym c.is_made.ensures ∙ c.if-not-is_made.false) c.smaller-parent.ensures

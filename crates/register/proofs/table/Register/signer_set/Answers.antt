@@ -1,7 +1,6 @@
 -- `Register::signer_set`: what the view has for the block, of the offices below n.
 use borrow.Author.Rules.{rules}
 use mathlib.Core.Path.{sym, ◌∙◌}
-use borrow.Author.Tests.{not-true, not-false}
 use Rattle.register.specs.Books.{book_of}
 use Rattle.register.proofs.Signing.{set_unseen, set_seen}
 use Rattle.register.proofs.table.Register.signer_set.Goals as goal

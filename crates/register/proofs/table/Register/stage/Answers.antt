@@ -2,7 +2,6 @@
 use borrow.Author.Rules.{rules}
 use native.Mathlib.Omega.{arith}
 use mathlib.Core.Path.{sym, ap, ◌∙◌}
-use borrow.Author.Tests.{not-true, not-false}
 use Rattle.words.specs.Tests.{choose}
 use Rattle.register.specs.Books.{book_of}
 use Rattle.register.specs.Views.{stage_numbered}
@@ -13,18 +12,18 @@ pub returns-then-not-is_sent : goal.returns-then-not-is_sent
 unfolding stage_numbered choose
 returns-then-not-is_sent c =
     let a = c.args in
-    ap stage_numbered (sym (stage_none a.t1 a.message.0 a.office.0 (search rules) (sym c.is_sent.ensures ∙ c.if-not-is_sent.true)))
+    ap stage_numbered (sym (stage_none a.self a.message.0 a.office.0 (search rules) (sym c.is_sent.ensures ∙ c.if-not-is_sent.true)))
 
 pub returns-then-not-trusted_at : goal.returns-then-not-trusted_at
 unfolding book_of stage_numbered choose
 returns-then-not-trusted_at c =
     let a = c.args in
-    ap stage_numbered (sym (stage_untrusted a.t1 a.message.0 a.office.0 (sym c.trusted_at.ensures ∙ c.if-not-trusted_at.true)))
+    ap stage_numbered (sym (stage_untrusted a.self a.message.0 a.office.0 (sym c.trusted_at.ensures ∙ c.if-not-trusted_at.true)))
 
 -- the message's word is in the table
 pub bounds-self-m : goal.bounds-self-m
 bounds-self-m c =
-    omega (arith, in_table c.args.t1 _ (sym c.is_sent.ensures ∙ c.if-not-is_sent.false))
+    omega (arith, in_table c.args.self _ (sym c.is_sent.ensures ∙ c.if-not-is_sent.false))
 
 pub returns : goal.returns
 unfolding book_of
@@ -32,5 +31,5 @@ returns c =
     let a = c.args in
     rw (c.stage_numbered.ensures, c.stage.ensures)
     (ap stage_numbered
-    (sym (stage_found a.t1 a.message.0 a.office.0 (sym c.trusted_at.ensures ∙ c.if-not-trusted_at.false)
+    (sym (stage_found a.self a.message.0 a.office.0 (sym c.trusted_at.ensures ∙ c.if-not-trusted_at.false)
     (sym c.is_sent.ensures ∙ c.if-not-is_sent.false))))
