@@ -35,9 +35,9 @@ abbrev pub Room : (l : List ℕ) → (p w : ℕ) → Type 0
 Room l p w = (length l ≤ 65536) × (w ≤ 32) × (p + w ≤ 8 * length l)
 
 -- what the test of them says where it holds
-pub in-room : (l : List ℕ) (p w : ℕ) → there l p w ≡ true → Room l p w
+pub in_room : (l : List ℕ) (p w : ℕ) → there l p w ≡ true → Room l p w
 unfolding there conj
-in-room l p w h =
+in_room l p w h =
     let rest = both_right (leb (length l) 65536) _ h in
     (leb-true _ _ (both_left _ _ h), leb-true _ _ (both_left _ _ rest), leb-true _ _ (both_left _ _ (both_right _ _ rest)))
 
@@ -45,7 +45,7 @@ in-room l p w h =
 pub field_fits : (l : List ℕ) (p w : ℕ) → field_at l p w < 2 ^ 32
 unfolding field_at choose
 field_fits l p w =
-    ⊎_elim (λ t. rw t (lt_of_lt_of_le (field_lt l p w) (pow_mono {j = 32} (in-room l p w t).1))) (λ f. rw f (omega arith)) (decided (there l p w))
+    ⊎_elim (λ t. rw t (lt_of_lt_of_le (field_lt l p w) (pow_mono {j = 32} (in_room l p w t).1))) (λ f. rw f (omega arith)) (decided (there l p w))
 
 -- a field is its upper part, moved up, and its lower part
 field_split : (l : List ℕ) (p a b : ℕ) → p + (a + b) ≤ 8 * length l → field l p (a + b) ≡ field l p a * 2 ^ b + field l (p + a) b
@@ -62,8 +62,8 @@ unfolding field_at choose
 parts_read l p w b x y h low ex ey =
     let a : ℕ = w - b in
     let whole : a + b ≡ w = omega arith in
-    let moved : x * 2 ^ b % 2 ^ 32 ≡ x * 2 ^ b = rw ex (shl_exact a b 32 (field_lt l p a) (omega (arith, in-room l p w h))) in
-    rw (h, moved, ex, ey) (rw whole at (sym (field_split l p a b (omega (arith, in-room l p w h)))))
+    let moved : x * 2 ^ b % 2 ^ 32 ≡ x * 2 ^ b = rw ex (shl_exact a b 32 (field_lt l p a) (omega (arith, in_room l p w h))) in
+    rw (h, moved, ex, ey) (rw whole at (sym (field_split l p a b (omega (arith, in_room l p w h)))))
 
 -- w bits show of a number only what is within them
 to_bits_mod : (w v : ℕ) → to_bits w (v % 2 ^ w) ≡ to_bits w v

@@ -149,6 +149,7 @@ same_row log p whole some = row_step (row_at log (kind_at log p) (p + 4)) (narro
 numbers_by : (log : List ℕ) (p : ℕ) (x : Skipped) → Outcome log p x
     → numbers (with_fields log p x) ≡ record { refusal = x.refusal; row = row_at log x.kind (p + 4) }
 unfolding numbers with_fields choose row_at width fields field num
+numbers_by log p _ (refused zero some) = elim some [ ]
 numbers_by log p x (refused (suc k) some) = rw eqb-suc-zero
 numbers_by log p x (ended whole none) = refl
 numbers_by log p x (stepped whole some) = rw (ne_eqb (kind_at log p) 0 (omega arith), same_row log p whole some)
@@ -283,6 +284,7 @@ module _ (log : List ℕ) (p : ℕ) where
   -- what is read stands there
   found : (x : Skipped) → Outcome log p x → Found log p x.next (with_fields log p x)
   unfolding Found with_fields choose
+  found _ (refused zero some) = elim some [ ]
   found x (refused (suc k) some) = rw eqb-suc-zero (record {})
   found x (ended whole none) = end_found whole none
   found x (stepped whole some) =

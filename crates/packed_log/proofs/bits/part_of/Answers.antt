@@ -1,4 +1,6 @@
 -- `packed_log::bits::part_of`: 1 shifted by the width is its power, and a remainder is below that.
+use native.Mathlib.Nat.{lt_of_lt_of_le, mod-lt}
+use native.Mathlib.Omega.{arith}
 use Prim.Native.Nat.{◌*◌, ◌%◌, ◌^◌}
 use mathlib.Core.Path.{◌≡◌, refl}
 use lib.Pow.{pow_mono, pow_pos}

@@ -1,4 +1,6 @@
 -- `packed_log::field::is_there`: makes the three tests, the last of them without a sum.
+use borrow.Author.Rules.{rules}
+use borrow.Author.Tests.{le-leb, lt-leb}
 use Rattle.words.specs.Tests.{both, conj}
 use Rattle.words.proofs.Tests.{and_both, both_none, both_all}
 use Rattle.packed_log.specs.Fields.{there}
@@ -11,7 +13,7 @@ returns-then-bytes-gt-LONGEST c = rw (lt-leb _ _ c.if-bytes-gt-LONGEST.true)
 
 pub overflow_mul-total : goal.overflow_mul-total
 unfolding there conj both
-overflow_mul-total c = search needs
+overflow_mul-total c = search rules
 
 pub returns-then-total-at : goal.returns-then-total-at
 unfolding there conj both

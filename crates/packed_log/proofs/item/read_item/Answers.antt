@@ -1,4 +1,6 @@
 -- `packed_log::item::read_item`: what was skipped, a step with its fields.
+use borrow.Author.Rules.{rules}
+use borrow.Author.Tests.{eq-eqb, ne_eqb}
 use native.Mathlib.Omega.{arith}
 use Rattle.words.specs.Tests.{choose}
 use Rattle.packed_log.specs.Items.{with_fields}
@@ -8,7 +10,7 @@ use Rattle.packed_log.proofs.item.read_item.Goals as goal
 
 pub skip_item-skipped-requires : goal.skip_item-skipped-requires
 unfolding with_fields choose
-skip_item-skipped-requires c = search needs
+skip_item-skipped-requires c = search rules
 
 pub returns-then-skipped-ne0 : goal.returns-then-skipped-ne0
 unfolding with_fields choose

@@ -1,4 +1,6 @@
 -- `packed_log::opening::open_with`: opens with the leaders that are there, and tells from that what all of them bring.
+use lib.ListN.{length}
+use lib.Seq.{length-take-le}
 use Prim.Native.Nat.{◌≤◌}
 use mathlib.Core.Path.{sym}
 use native.Mathlib.Omega.{arith}

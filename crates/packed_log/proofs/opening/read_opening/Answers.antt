@@ -1,6 +1,4 @@
 -- `packed_log::opening::read_opening`: makes the tests up to the schedule's length, then those of the leaders.
-use Prim.Native.Nat.{ℕ}
-use mathlib.Core.List.{List}
 use mathlib.Core.Path.{◌≡◌, refl, sym, ◌∙◌}
 use native.Mathlib.Omega.{arith}
 use Rattle.words.specs.Refusals.{first}
@@ -9,16 +7,12 @@ use Rattle.packed_log.proofs.OpeningLaws.{Front, front_clear, front_refused, led
 use Rattle.packed_log.proofs.opening.read_opening.Goals as goal
 use Rattle.packed_log.proofs.opening.read_opening.Goals.{After-read_bits-k, Else-refusal-ne0}
 
--- the log, seen from behind the tests up to the schedule's length
-abbrev log_of : Else-refusal-ne0 → List ℕ
-log_of c = c.args.log.now
-
--- what they say
-front : (c : Else-refusal-ne0) → Front (log_of c) (count_in (log_of c)) (length_in (log_of c) (count_in (log_of c)))
-front c = front_clear (log_of c) _ _ (sym c.front_refusal-refusal.ensures ∙ c.if-refusal-ne0.false)
+-- what the tests up to the schedule's length say, once they hold
+front : (c : Else-refusal-ne0) → Front c.args.log.now (count_in c.args.log.now) (length_in c.args.log.now (count_in c.args.log.now))
+front c = front_clear c.args.log.now _ _ (sym c.front_refusal-refusal.ensures ∙ c.if-refusal-ne0.false)
 
 -- the same, of what has been read
-clear : (c : After-read_bits-k) → first (front_tests (log_of c.before.before) c.read_bits-n.result c.read_bits-k.result) ≡ 0
+clear : (c : After-read_bits-k) → first (front_tests c.args.log.now c.read_bits-n.result c.read_bits-k.result) ≡ 0
 clear c =
     rw (c.read_bits-k.ensures.0, c.read_bits-n.ensures.0) (sym c.front_refusal-refusal.ensures ∙ c.if-refusal-ne0.false)
 
@@ -36,7 +30,7 @@ read_bits-k-requires c =
 
 pub open_with-requires : goal.open_with-requires
 open_with-requires c =
-    let here = front_clear (log_of (goal.at.open_with-requires c).Else-refusal-ne0) c.read_bits-n.result c.read_bits-k.result (clear (goal.at.open_with-requires c).After-read_bits-k) in
+    let here = front_clear c.args.log.now c.read_bits-n.result c.read_bits-k.result (clear (goal.at.open_with-requires c).After-read_bits-k) in
     (here.offices.0, here.offices.1, here.epochs.0, here.epochs.1, omega (arith, here.there), here.small)
 
 pub returns : goal.returns

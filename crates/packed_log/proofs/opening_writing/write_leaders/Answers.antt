@@ -1,5 +1,8 @@
+use Rattle.packed_log.specs.Writing.{leader_bits}
+use Rattle.packed_log.proofs.BitsLaws.{put_none, length_put}
+use Rattle.packed_log.proofs.WritingLaws.{next_leader_bits}
 use borrow.Author.Rules.{rules}
-use Prim.Native.Nat.{◌-◌, ◌<◌}
+use Prim.Native.Nat.{◌<◌}
 use mathlib.Core.Path.{◌≡◌, sym, ap, ◌∙◌}
 use native.Mathlib.Omega.{arith}
 use lib.ListN.{length, get_or}

@@ -1,4 +1,6 @@
 -- `packed_log::opening_writing::write_leaders`: at each turn the first i leaders are laid.
+use Rattle.packed_log.specs.Bits.{put}
+use Rattle.packed_log.specs.Writing.{leader_bits}
 use Prim.Native.Nat.{◌-◌, ◌≤◌}
 use mathlib.Core.Path.{◌≡◌}
 use lib.ListN.{length, take}

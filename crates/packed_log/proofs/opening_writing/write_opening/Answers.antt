@@ -6,14 +6,10 @@ use Rattle.packed_log.specs.Writing.{opening_bits}
 use Rattle.packed_log.proofs.WritingLaws.{length_opening, has_room, call_refused, call_short, call_fits, opening_bad, opening_room}
 use Rattle.packed_log.proofs.OpeningLaws.{accepted}
 use Rattle.packed_log.proofs.opening_writing.write_opening.Goals as goal
-use Rattle.packed_log.proofs.opening_writing.write_opening.Goals.{Else-refusal-ne0, Start}
-
--- the start, seen from behind the opening's test
-abbrev start : Else-refusal-ne0 → Start
-start c = c.before.before.before.before
+use Rattle.packed_log.proofs.opening_writing.write_opening.Goals.{Else-refusal-ne0}
 
 -- there the register does not refuse the opening
-opens : (c : Else-refusal-ne0) → opening_refusal (start c).args.n (start c).args.trust (start c).args.schedule.now ≡ 0
+opens : (c : Else-refusal-ne0) → opening_refusal c.args.n c.args.trust c.args.schedule.now ≡ 0
 opens c = sym c.opening_refusal-refusal.ensures ∙ c.if-refusal-ne0.false
 
 pub returns-then-refusal-ne0 : goal.returns-then-refusal-ne0
@@ -35,11 +31,11 @@ lay_opening-requires c =
     let held = accepted _ _ _ (opens (goal.at.lay_opening-requires c).Else-refusal-ne0) in (
       held.count.1,
       record { most = held.turns.1; leader = λ i l. omega (arith, held.leader i l, held.count) },
-      has_room (start (goal.at.lay_opening-requires c).Else-refusal-ne0).args.buf.now _ _ _ (omega arith) c.room_of.ensures c.if-room_of-size.false,
+      has_room c.args.buf.now _ _ _ (omega arith) c.room_of.ensures c.if-room_of-size.false,
     )
 
 pub returns : goal.returns
 returns c =
-    let a = (start (goal.at.returns c).Else-refusal-ne0).args in
+    let a = c.args in
     call_fits a.buf.now a.at _ _ _ (opening_bits a.n a.trust a.schedule.now) (sym (length_opening _ _ _))
     c.room_of.ensures (opening_room _ _ _ _ _ (opens (goal.at.returns c).Else-refusal-ne0)) _ c.if-room_of-size.false c.lay_opening.ensures

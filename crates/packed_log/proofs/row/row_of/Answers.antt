@@ -25,7 +25,7 @@ returns-in-Deliver c = search arms depth 6
 
 pub returns-in-BadSend : goal.returns-in-BadSend
 unfolding row_of
-returns-in-BadSend c = by_step _ _ _ c.step-in-BadSend-1.given.1 (rw c.kind_number.ensures at c.filled-in-BadSend.ensures)
+returns-in-BadSend c = by_step _ _ _ c.in-BadSend.is (rw c.kind_number.ensures at c.filled-in-BadSend.ensures)
 
 pub returns-in-Draft : goal.returns-in-Draft
 unfolding row_of

@@ -1,10 +1,10 @@
 -- `packed_log::row::step_of`: each arm gives the step of its kind, and the numbers of that kind's columns fit.
-use Prim.Native.Nat.{◌-◌}
+use mathlib.Core.Path.{◌≡◌}
 use native.Mathlib.Omega.{arith}
 use Rattle.packed_log.specs.Rows.{pick, steps_of}
-use Rattle.packed_log.specs.Widths.{kinds, width, fields}
+use Rattle.packed_log.specs.Widths.{width, fields}
 use Rattle.words.specs.Tests.{choose}
-use Rattle.packed_log.proofs.RowLaws.{Other, other, byte_column, arms}
+use Rattle.packed_log.proofs.RowLaws.{Other, byte_column, arms}
 use Rattle.packed_log.proofs.row.step_of.Goals as goal
 
 pub overflow_cast-result : goal.overflow_cast-result
@@ -41,11 +41,11 @@ overflow_cast-result-in-6 c = search arms depth 6
 
 pub overflow_cast-result-in-6-2 : goal.overflow_cast-result-in-6-2
 unfolding pick steps_of choose width fields Other
-overflow_cast-result-in-6-2 c = byte_column _ 6 2 _ c.in-6.keys6 c.requires.2.third tt
+overflow_cast-result-in-6-2 c = byte_column _ 6 2 _ c.in-6.is c.requires.2.third tt
 
 pub overflow_cast-result-in-6-3 : goal.overflow_cast-result-in-6-3
 unfolding pick steps_of choose width fields Other
-overflow_cast-result-in-6-3 c = byte_column _ 6 3 _ c.in-6.keys6 c.requires.2.fourth tt
+overflow_cast-result-in-6-3 c = byte_column _ 6 3 _ c.in-6.is c.requires.2.fourth tt
 
 pub overflow_cast-result-in-7 : goal.overflow_cast-result-in-7
 unfolding pick steps_of choose width fields Other
@@ -85,4 +85,4 @@ returns-in-8 c = search arms depth 6
 
 pub returns-in_default : goal.returns-in_default
 unfolding pick steps_of choose width fields Other
-returns-in_default c = absurd (omega (arith, other (kinds - 1) _ c.in_default.rest (omega arith)))
+returns-in_default c = let none : c.args.r.kind ≡ 0 = omega arith in absurd (omega arith)

@@ -1,4 +1,6 @@
 -- `packed_log::writing::row_refusal`: makes the tests of a row in their order.
+use Rattle.packed_log.proofs.Judging.{judging}
+use Rattle.packed_log.proofs.WritingLaws.{length_row}
 use Rattle.packed_log.specs.Writing.{row_refused}
 use Rattle.packed_log.proofs.writing.row_refusal.Goals as goal
 

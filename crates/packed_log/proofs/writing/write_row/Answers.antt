@@ -1,4 +1,6 @@
 -- `packed_log::writing::write_row`: each field is laid where the one before it ends.
+use Rattle.packed_log.proofs.RowLaws.{first_width}
+use Rattle.packed_log.proofs.WritingLaws.{columns, put_row}
 use borrow.Author.Rules.{rules}
 use native.Mathlib.Omega.{arith}
 use Rattle.packed_log.proofs.writing.write_row.Goals as goal

@@ -1,4 +1,7 @@
 -- `packed_log::writing::write_step`: gives the refusal of the step's row, or lays the row.
+use Rattle.packed_log.specs.Rows.{Narrow}
+use Rattle.packed_log.specs.Widths.{kinds, due}
+use Rattle.packed_log.specs.Writing.{HasRoom}
 use Prim.Native.Nat.{◌+◌, ◌<◌}
 use mathlib.Core.Path.{sym, ◌∙◌}
 use native.Mathlib.Omega.{arith}

@@ -1,4 +1,6 @@
 -- `slip::checking::is_link` makes both tests.
+use borrow.Author.Rules.{rules}
+use borrow.Author.Tests.{le-ltb, lt-ltb}
 use mathlib.Core.Path.{◌≡◌, ap}
 use lib.Dec.{ltb}
 use Rattle.words.specs.Tests.{both}
@@ -13,15 +15,15 @@ later c = rw (c.epoch_at-2.ensures, c.epoch_at.ensures, c.parent_at-parent.ensur
 
 pub parent_at-parent-requires : goal.parent_at-parent-requires
 unfolding both
-parent_at-parent-requires c = search needs
+parent_at-parent-requires c = search rules
 
 pub epoch_at-requires : goal.epoch_at-requires
 unfolding both
-epoch_at-requires c = search needs
+epoch_at-requires c = search rules
 
 pub epoch_at-requires-2 : goal.epoch_at-requires-2
 unfolding both
-epoch_at-requires-2 c = search needs
+epoch_at-requires-2 c = search rules
 
 pub returns-then-epoch_at : goal.returns-then-epoch_at
 unfolding both
@@ -29,7 +31,7 @@ returns-then-epoch_at c = rw (later (goal.at.returns-then-epoch_at c).After-epoc
 
 pub count_signers-requires : goal.count_signers-requires
 unfolding both
-count_signers-requires c = search needs
+count_signers-requires c = search rules
 
 pub returns : goal.returns
 unfolding both

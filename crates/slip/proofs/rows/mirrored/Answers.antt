@@ -1,15 +1,17 @@
 -- `slip::rows::mirrored`: an office below n counts from the last one on.
+use borrow.Author.Rules.{rules}
+use borrow.Author.Tests.{lt-ltb, le-ltb}
 use Rattle.words.specs.Tests.{choose}
 use Rattle.slip.specs.Rows.{mirror}
 use Rattle.slip.proofs.rows.mirrored.Goals as goal
 
 pub overflow_sub-result : goal.overflow_sub-result
 unfolding mirror choose
-overflow_sub-result c = search needs
+overflow_sub-result c = search rules
 
 pub overflow_sub-result-then-q-n : goal.overflow_sub-result-then-q-n
 unfolding mirror choose
-overflow_sub-result-then-q-n c = search needs
+overflow_sub-result-then-q-n c = search rules
 
 pub returns-then-q-n : goal.returns-then-q-n
 unfolding mirror choose
