@@ -33,8 +33,8 @@ Backed r b = chain_notarised_by r (backed r) b ≡ true
 pub backed_by : (r : Book) (b : ℕ) (p : ℕ → Bool) → ((h : ℕ) → h < r.n → p h ≡ true → ever_signed r h b ≡ true)
     → enough (tally r.n p) r.n ≡ true → backed r b ≡ true
 unfolding backed tally
-backed_by r b p in-history e =
-    either_right _ _ (enough_make _ r.n (omega (arith, weigh_more unit r.n p _ in-history, enough_least _ r.n e)))
+backed_by r b p in_history_lem e =
+    either_right _ _ (enough_make _ r.n (omega (arith, weigh_more unit r.n p _ in_history_lem, enough_least _ r.n e)))
 
 -- a notarised block is backed
 pub notarised_backed : (r : Book) → r.n ≤ most_offices → (q b : ℕ) → notarised r q b ≡ true → backed r b ≡ true

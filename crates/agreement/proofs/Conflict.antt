@@ -20,9 +20,9 @@ use Rattle.agreement.proofs.Backing.{backed, Backed, two_thirds}
 use Rattle.agreement.proofs.Safety.{Signature, Ordered, same, before, after, Safe, signature}
 
 -- a signature that the history has
-in-history : (r : Book) (h b : ℕ) → ever_signed r h b ≡ true → Signature r h b
+in_history_lem : (r : Book) (h b : ℕ) → ever_signed r h b ≡ true → Signature r h b
 unfolding ever_signed
-in-history r h b t =
+in_history_lem r h b t =
     let f : (m : ℕ) × (m < r.count) × (says r h b m ≡ true) = any_at _ r.count t in
     signature r h b f.0 f.1 f.2
 
@@ -36,7 +36,7 @@ module _ {r : Book} (safe : Safe r) where
       let f : (h : ℕ) × (h < r.n) × (ever_signed r h x ≡ true) × (ever_signed r h y ≡ true) × (not (trusted r h) ≡ false) =
       quorum unit r.n (λ h. not (trusted r h)) (λ h. ever_signed r h x) (λ h. ever_signed r h y)
       (omega (arith, safe.few)) (omega (arith, two_thirds r x px bx)) (omega (arith, two_thirds r y py by)) in
-      (f.0, not-false _ f.4, in-history r f.0 x f.2, in-history r f.0 y f.3)
+      (f.0, not-false _ f.4, in_history_lem r f.0 x f.2, in_history_lem r f.0 y f.3)
 
   -- so the last blocks of two backed chains are ordered
   both_ordered : (x y : ℕ) → 0 < x → 0 < y → Backed r x → Backed r y → Ordered r x y

@@ -219,9 +219,9 @@ lawful_finalise r office newest z a grows =
     }
 
 -- a message of the history is a signature
-in-history : (r : Book) (kind : Kind) (h b : ℕ) → in_history r kind h b ≡ true → Signature r h b
+in_history_lem : (r : Book) (kind : Kind) (h b : ℕ) → in_history r kind h b ≡ true → Signature r h b
 unfolding history_in
-in-history r kind h b t =
+in_history_lem r kind h b t =
     let f : (m : ℕ) × (m < r.count) × (both (agree (get_or r.votes m false) (is_vote kind)) (says r h b m) ≡ true) = any_at _ r.count t in
     signature r h b f.0 f.1 (both_right _ _ f.2)
 
@@ -236,7 +236,7 @@ lawful_bad_send r sender kind signer about z a grows =
       clock = still refl (λ x l a. a);
       one = omega arith;
       news = one_new r (with_sent r sender.0 new) new refl (signer_new r z.sizes sender.0 new a.room)
-          (about_new r z.sizes sender.0 new a.room) (λ t. inl (in-history r kind signer.0 about.0 (a.known t)));
+          (about_new r z.sizes sender.0 new a.room) (λ t. inl (in_history_lem r kind signer.0 about.0 (a.known t)));
       finals = λ p t. inl refl;
     }
 

@@ -34,8 +34,8 @@ either_four false true c d = refl
 either_four false false c d = refl
 
 -- For `search columns`: a number that has room in its column has room in a width that was looked up.
-pub in-column : (x w v : ℕ) → w ≡ v → x < 2 ^ v → x < 2 ^ w
-in-column x w v e h = rw e h
+pub in_column : (x w v : ℕ) → w ≡ v → x < 2 ^ v → x < 2 ^ w
+in_column x w v e h = rw e h
 
 -- a number has no room in its column where it has none in that width
 pub over_column : (t : Bool) (x w v : ℕ) → t ≡ leb (2 ^ w) x → w ≡ v → t ≡ leb (2 ^ v) x
@@ -45,7 +45,7 @@ over_column t x w v h e = h ∙ rw e
 pub any_column : (a b c d x y z t : Bool) → a ≡ x → b ≡ y → c ≡ z → d ≡ t → a || b || c || d ≡ either x (either y (either z t))
 any_column a b c d x y z t e f g h = rw (← e, ← f, ← g, ← h) (simp or_either (either_four a b c d))
 
-pub ruleset columns = (in-column, over_column, any_column)
+pub ruleset columns = (in_column, over_column, any_column)
 
 -- a kind with its first field, and the other fields, laid one behind the other, are the row
 pub put_row : (r : Row) (p w0 w1 w2 w3 head : ℕ) (l l1 l2 l3 l4 : List ℕ)

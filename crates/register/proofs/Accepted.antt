@@ -24,8 +24,8 @@ unfolding trusted_in
 trusted_below r q t = ltb-true q r.n (both_left _ _ t)
 
 -- a message in the inbox
-in-hand : (r : Book) (q m : ℕ) → not_in_hand r q m ≡ false → Placed r q m 2
-in-hand r q m h = placed r q m 1 (eqb-true _ 2 (not-false _ h))
+in_hand : (r : Book) (q m : ℕ) → not_in_hand r q m ≡ false → Placed r q m 2
+in_hand r q m h = placed r q m 1 (eqb-true _ 2 (not-false _ h))
 
 -- a trusted office that is ready signs a block of the current epoch on a longest chain, and there is room for its message
 pub record Signs (r : Book) (q parent epoch : ℕ) : Type 0 where
@@ -97,7 +97,7 @@ module _ (r : Book) where
   votes office message h =
       let fails = clear (vote r office message).tests h in
       record {
-        message = in-hand r office.0 message.0 fails.1.1.1.1.1.0;
+        message = in_hand r office.0 message.0 fails.1.1.1.1.1.0;
         current = eqb-true _ _ (not-false _ (either_false_right _ _ fails.1.1.1.1.1.1.1.0));
         signs =
             record {
@@ -138,7 +138,7 @@ module _ (r : Book) where
   unfolding rule_of
   accepted (Step.Propose office parent w) h = proposes office parent w h
   accepted (Step.Vote office message) h = votes office message h
-  accepted (Step.Register office message) h = in-hand r office.0 message.0 (clear (register r office message).tests h).1.1.1.0
+  accepted (Step.Register office message) h = in_hand r office.0 message.0 (clear (register r office message).tests h).1.1.1.0
   accepted (Step.Finalise office newest) h = finalised office newest h
   accepted (Step.Deliver message office) h =
       placed r office.0 message.0 0 (eqb-true _ 1 (not-false _ (clear (deliver r message office).tests h).1.1.0))

@@ -12,7 +12,7 @@ use Rattle.words.specs.Sums.{tally}
 use Rattle.words.specs.Digits.{digit, fill, in_set, set_bits}
 use Rattle.words.proofs.Tests.{any_fails, both_none}
 use Rattle.words.proofs.Sums.{tally_ext, tally_past}
-use Rattle.words.proofs.Digits.{in-set, in-set-past, set_below, set_ext, set_none}
+use Rattle.words.proofs.Digits.{in_set_lem, in_set_past, set_below, set_ext, set_none}
 use Rattle.quorum.specs.declared.SignerCount.{SignerCount}
 use Rattle.quorum.specs.Enough.{count_of}
 use Rattle.tables.specs.Messages.{says_in}
@@ -31,15 +31,15 @@ module _ (r : Book) (q : ℕ) where
   -- in every register as many bits are set as there are signers
   bits_count : (b : ℕ) → set_bits (signer_set r q b) ≡ signers r q b
   unfolding signer_set
-  bits_count b = tally_ext 32 _ (signs r q b) (λ s l. in-set (signs r q b) s l)
+  bits_count b = tally_ext 32 _ (signs r q b) (λ s l. in_set_lem (signs r q b) s l)
 
   -- and none of them from n up
   no_bit : (b s : ℕ) → r.n ≤ s → in_set (signer_set r q b) s ≡ false
   unfolding signer_set both
   no_bit b s past =
       elim (dec_lt s 32) as (λ _. in_set (signer_set r q b) s ≡ false) [
-        | no long ↦ in-set-past (signs r q b) s (omega arith)
-        | yes within ↦ in-set (signs r q b) s within ∙ rw (le-ltb s r.n past)
+        | no long ↦ in_set_past (signs r q b) s (omega arith)
+        | yes within ↦ in_set_lem (signs r q b) s within ∙ rw (le-ltb s r.n past)
       ]
 
   -- so those below n are the signers, however many offices the register says
@@ -48,7 +48,7 @@ module _ (r : Book) (q : ℕ) where
   members_count b =
       elim (dec_lt 32 r.n) as (λ _. tally r.n (in_set (signer_set r q b)) ≡ signers r q b) [
         | no few ↦ sym (tally_past r.n 32 _ (omega arith) (λ s past. no_bit b s past)) ∙ bits_count b
-        | yes many ↦ tally_past 32 r.n _ (omega arith) (λ s past. in-set-past (signs r q b) s past) ∙ bits_count b
+        | yes many ↦ tally_past 32 r.n _ (omega arith) (λ s past. in_set_past (signs r q b) s past) ∙ bits_count b
       ]
 
   -- and what their count tells of a block other than genesis is the notarised test
@@ -84,8 +84,8 @@ module _ (r : Book) (q : ℕ) where
   bits_tell h b s =
       let few : r.n ≤ 32 = (fit_counts r h).offices in
       elim (dec_lt s 32) as (λ _. in_set (signer_set r q b) s ≡ signed r q s b) [
-        | no past ↦ in-set-past _ s (omega arith) ∙ sym (no_stranger h s b (omega arith))
-        | yes within ↦ in-set _ s within ∙ (elim (dec_lt s r.n) as (λ _. both (ltb s r.n) (signed r q s b) ≡ signed r q s b) [
+        | no past ↦ in_set_past _ s (omega arith) ∙ sym (no_stranger h s b (omega arith))
+        | yes within ↦ in_set_lem _ s within ∙ (elim (dec_lt s r.n) as (λ _. both (ltb s r.n) (signed r q s b) ≡ signed r q s b) [
           | yes office ↦ rw (lt-ltb s r.n office)
           | no stranger ↦ rw (no_stranger h s b (omega arith), both_none)
         ])

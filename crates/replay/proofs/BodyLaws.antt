@@ -28,6 +28,7 @@ Sound log p next (Item.Refused number) = 0 < number
 -- so does every item
 sound : (log : List ℕ) (p : ℕ) (x : Skipped) → Outcome log p x → Sound log p x.next (with_fields log p x)
 unfolding Sound with_fields choose
+sound log p _ (refused zero some) = elim some [ ]
 sound log p x (refused (suc k) some) = rw eqb-suc-zero (omega arith)
 sound log p x (ended good none) = record {}
 sound log p x (stepped good some) =
@@ -76,6 +77,7 @@ pub record Tells (log : List ℕ) (p : ℕ) (body : Body) (skipped : Skipped) : 
 
 tells : (log : List ℕ) (p : ℕ) (x : Skipped) → Outcome log p x → Tells log p (begun (with_fields log p x) (body_at log x.next)) x
 unfolding with_fields choose begun
+tells log p _ (refused zero some) = elim some [ ]
 tells log p x (refused (suc k) some) =
     rw eqb-suc-zero (record { closed = λ none. refl; behind = λ step. absurd (step refl); fewer = λ step. absurd (step refl) })
 tells log p x (ended good none) = record { closed = λ none. refl; behind = λ step. absurd (step refl); fewer = λ step. absurd (step refl) }

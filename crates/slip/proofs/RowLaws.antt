@@ -9,7 +9,7 @@ use lib.Seq.{get_or-take, get_or-drop}
 use Rattle.words.specs.Tests.{both}
 use Rattle.words.specs.Digits.{in_set, digit}
 use Rattle.words.proofs.Tests.{any_same}
-use Rattle.words.proofs.Digits.{in-set}
+use Rattle.words.proofs.Digits.{in_set_lem}
 use Rattle.tables.specs.Searches.{signed_in, signers_in, view_in}
 use Rattle.tables.proofs.Views.{view_entry}
 use Rattle.register.specs.declared.book.Book.{Book}
@@ -48,7 +48,7 @@ row_signed : (places signers about : List ℕ) (count n q s b : ℕ) → count �
 unfolding signers_in
 row_signed places signers about count n q s b sent below few hs hb =
     ap (λ (x : ℕ). in_set x (n - 1 - s)) (view_entry places (map (mirror n) signers) about count q b hb)
-    ∙ in-set (λ k. signed_in places (map (mirror n) signers) about count q k b) (n - 1 - s) (omega arith)
+    ∙ in_set_lem (λ k. signed_in places (map (mirror n) signers) about count q k b) (n - 1 - s) (omega arith)
     ∙ signed_mirror places signers about count n q s b sent below hs
 
 module _ (r : Book) (z : Ranges r) where

@@ -14,7 +14,7 @@ use Rattle.words.specs.Tests.{choose, both}
 use Rattle.words.specs.Digits.{in_set}
 use Rattle.words.specs.Refusals.{◌⇒◌, first}
 use Rattle.words.proofs.Clearing.{hold, clear}
-use Rattle.words.proofs.Digits.{in-set}
+use Rattle.words.proofs.Digits.{in_set_lem}
 use Rattle.words.proofs.Refusals.{positive, first_before, first_behind}
 use Rattle.words.proofs.Turns.{hit, skip, none as nothing}
 use Rattle.tables.specs.Chains.{chain_by}
@@ -151,7 +151,7 @@ module _ (r : Book) (q : ℕ) where
   -- office s's bit in the word of a block's signers
   pub signer_bit : (x s : ℕ) → r.n ≤ 32 → s < r.n → in_set (signer_set r q x) s ≡ signed r q s x
   unfolding signer_set both
-  signer_bit x s few h = in-set (signs r q x) s (omega arith) ∙ rw (lt-ltb s r.n h)
+  signer_bit x s few h = in_set_lem (signs r q x) s (omega arith) ∙ rw (lt-ltb s r.n h)
 
   -- the rows of some blocks are n bits long each
   pub length_rows : (blocks : List ℕ) → length (rows_bits r q blocks) ≡ r.n * length blocks

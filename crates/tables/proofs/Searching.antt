@@ -17,7 +17,7 @@ use Rattle.words.specs.Sums.{tally}
 use Rattle.words.specs.Tests.{choose, both, either, every}
 use Rattle.words.proofs.Tests.{and_both, any_fails, any_same, both_left, both_right, decided, either_cases, either_left, either_false_left, either_false_right}
 use Rattle.words.proofs.Sums.{always, tally_always, tally_ext, tally_none}
-use Rattle.words.proofs.Digits.{digit_zero, in-set}
+use Rattle.words.proofs.Digits.{digit_zero, in_set_lem}
 use Rattle.tables.specs.Blocks.{parent_in}
 use Rattle.tables.specs.Chains.{chain_by}
 use Rattle.tables.specs.Searches.{blocks, offices, enough_in, certified_by, certified_in, above, certified_above, rank, rank_above, raised, outranked, longer_by, longest_by, longest_in}
@@ -36,7 +36,7 @@ everyone_all = refl
 -- everyone is enough, however many offices there are
 pub everyone_enough : (n : ℕ) → n ≤ offices → enough_in 4294967295 n ≡ true
 everyone_enough n few =
-    let in-it : (s : ℕ) → s < n → in_set 4294967295 s ≡ true = λ s h. rw everyone_all (in-set always s (omega arith)) in
+    let in-it : (s : ℕ) → s < n → in_set 4294967295 s ≡ true = λ s h. rw everyone_all (in_set_lem always s (omega arith)) in
     enough_make _ n (omega (arith, tally_ext n (in_set 4294967295) always in-it, tally_always n))
 
 -- nobody is not enough, where there are offices

@@ -19,7 +19,7 @@ use Rattle.words.specs.Sums.{tally}
 use Rattle.words.specs.Tests.{choose, both, either, any}
 use Rattle.words.proofs.Tests.{any_fails, any_same, any_with, both_all, both_none, decided, either_left, either_none, either_right}
 use Rattle.words.proofs.Sums.{tally_ext}
-use Rattle.words.proofs.Digits.{in-set, set_ext, set_none}
+use Rattle.words.proofs.Digits.{in_set_lem, set_ext, set_none}
 use Rattle.tables.specs.Messages.{view, says_in}
 use Rattle.tables.specs.Searches.{messages, blocks, offices, signed_in, signers_in, tabulate, view_in, enough_in}
 use Rattle.tables.proofs.Scans.{signs, signed_most, untold_past}
@@ -84,7 +84,7 @@ set_next : (f : ℕ → Bool) (w next place q signer about b : ℕ) → w ≡ se
     → next ≡ set_of (λ s. either (f s) (both (eqb (digit 4 place q) view) (both (eqb signer s) (eqb about b))))
 unfolding with_member
 set_next f w next place q signer about b h e =
-    rw (e, h, choose_set _ _ _) (set_ext _ _ (λ s l. rw (in-set f s l) (joins _ _ _ _)))
+    rw (e, h, choose_set _ _ _) (set_ext _ _ (λ s l. rw (in_set_lem f s l) (joins _ _ _ _)))
 
 -- what a message that was noted, in the view or not, does to the set of each block
 noted_entry : (sets : List ℕ) (inside : Bool) (about signer b : ℕ) → length sets ≡ blocks → about < blocks
@@ -231,4 +231,4 @@ module _ (places signers about : List ℕ) (q b : ℕ) where
   view_enough count n few l =
       rw (view_entry places signers about count q b l)
       (ap (λ (k : ℕ). enough k n)
-      (tally_ext n _ (λ s. signed_in places signers about count q s b) (λ s h. in-set _ s (omega arith))))
+      (tally_ext n _ (λ s. signed_in places signers about count q s b) (λ s h. in_set_lem _ s (omega arith))))

@@ -295,14 +295,14 @@ set_with n w q fit =
     (λ k l. rw (bit_or_lem w (2 ^ q % 2 ^ n) k, bit_only n q k l))
 
 -- an office is in the set of a test where the test holds of it
-pub in-set : (p : ℕ → Bool) (s : ℕ) → s < 32 → in_set (set_of p) s ≡ p s
+pub in_set_lem : (p : ℕ → Bool) (s : ℕ) → s < 32 → in_set (set_of p) s ≡ p s
 unfolding set_of
-in-set p s h = bit_set 32 p s h
+in_set_lem p s h = bit_set 32 p s h
 
 -- who is in a set with one more member
 pub member_put : (w q k : ℕ) → k < 32 → in_set (with_member w q) k ≡ either (in_set w k) (eqb q k)
 unfolding with_member
-member_put w q k h = in-set (λ x. either (in_set w x) (eqb q x)) k h
+member_put w q k h = in_set_lem (λ x. either (in_set w x) (eqb q x)) k h
 
 -- two tests that agree on the 32 offices make the same set
 pub set_ext : (p q : ℕ → Bool) → ((s : ℕ) → s < 32 → p s ≡ q s) → set_of p ≡ set_of q
@@ -321,8 +321,8 @@ unfolding set_of
 set_lt p = fill_lt 2 32 _ (λ s. choose_lt (p s) 1 0 2 (omega arith) (omega arith))
 
 -- from 32 up there is nobody in the set of a test
-pub in-set-past : (p : ℕ → Bool) (s : ℕ) → 32 ≤ s → in_set (set_of p) s ≡ false
-in-set-past p s h = rw (digit_past 2 (set_of p) 32 s (set_lt p) h)
+pub in_set_past : (p : ℕ → Bool) (s : ℕ) → 32 ≤ s → in_set (set_of p) s ≡ false
+in_set_past p s h = rw (digit_past 2 (set_of p) 32 s (set_lt p) h)
 
 -- the offices below n of the set of a test
 pub set_below : (n : ℕ) (p : ℕ → Bool) → fill 2 n (digit 2 (set_of p)) ≡ set_of (λ s. both (ltb s n) (p s))
@@ -333,7 +333,7 @@ set_below n p =
     set_of_bits 32 low (λ s. both (ltb s n) (p s)) (rw (fill_digit 2 n (set_of p) (omega arith)) (lt_of_le_of_lt (mod-le (set_of p) (2 ^ n)) (set_lt p)))
     (λ s h.
     elim (dec_lt s n) as (λ _. in_set low s ≡ both (ltb s n) (p s)) [
-      | yes l ↦ rw (digit_fill 2 n (digit 2 (set_of p)) bit s l, lt-ltb s n l) (in-set p s h)
+      | yes l ↦ rw (digit_fill 2 n (digit 2 (set_of p)) bit s l, lt-ltb s n l) (in_set_lem p s h)
       | no past ↦ rw (digit_past 2 low n s (fill_lt 2 n (digit 2 (set_of p)) bit) (omega arith), le-ltb s n (omega arith))
     ])
 

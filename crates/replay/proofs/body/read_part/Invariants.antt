@@ -1,7 +1,6 @@
 -- `replay::body::read_part`: at each turn the first slots hold the steps in front of the position.
 use Prim.Native.Nat.{◌-◌}
 use Rattle.register.specs.Limits.{batch}
-use Rattle.packed_log.specs.contracts.item.Item as item-laws
 use Rattle.replay.proofs.PartLaws.{Gathered}
 use Rattle.replay.proofs.body.read_part.Given as goal
 

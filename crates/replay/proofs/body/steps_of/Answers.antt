@@ -1,5 +1,4 @@
 use borrow.Author.Rules.{rules}
-use Prim.Native.Nat.{◌-◌}
 use mathlib.Core.Path.{◌≡◌, sym}
 use native.Mathlib.Omega.{arith}
 use lib.ListN.{length}
@@ -11,7 +10,7 @@ use Rattle.replay.proofs.body.steps_of.Goals as goal
 use Rattle.replay.proofs.body.steps_of.Goals.{Start}
 
 -- there are as many slots as a batch has steps
-full : (c : Start) → length c.args.t1 ≡ batch
+full : (c : Start) → length c.args.slots ≡ batch
 full c = c.well_formed.0.1.0.1
 
 pub loop-i-init : goal.loop-i-init
