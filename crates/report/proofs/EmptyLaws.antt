@@ -1,5 +1,5 @@
 -- The report of a log of no bytes is told from every other by its first byte, the letter e.
-use Prim.Native.Nat.{ℕ, zero, suc, ◌/◌, ◌<◌}
+use Prim.Native.Nat.{◌+◌, ℕ, zero, suc, ◌/◌, ◌<◌}
 use mathlib.Core.Path.{◌≡◌, refl}
 use mathlib.Core.Bool.{Bool, true, false}
 use mathlib.Core.List.{List, [], ◌∷◌, ◌++◌}
@@ -54,7 +54,7 @@ other_numbers first (second ∷ more) = other_then (other_number first 32 (omega
 other_steps : (place : ℕ) (answers : List Stepped) → Other (step_lines place answers)
 unfolding step_lines
 other_steps place [] = record { unlike = λ e. omega arith }
-other_steps place (s ∷ ss) = other_then (other_numbers _ _) (other_steps _ ss)
+other_steps place (s ∷ ss) = other_then (other_numbers _ _) (other_steps (place + 1) ss)
 
 -- nor does the line of an office: it begins with the letter o, or there is none
 other_office : (r : Register) (q : ℕ) → Other (office_text r q)

@@ -8,7 +8,7 @@ use native.Mathlib.Omega.{arith}
 use borrow.Author.Tests.{leb-true, ltb-true, ne_eqb}
 use lib.Dec.{ltb, leb}
 use lib.ListN.{length}
-use Rattle.words.specs.Tests.{choose, both, all, every}
+use Rattle.words.specs.Tests.{choose, both, every}
 use Rattle.words.specs.Digits.{in_set}
 use Rattle.words.specs.Refusals.{◌⇒◌, first}
 use Rattle.words.proofs.Tests.{both_left, both_right, every_both}

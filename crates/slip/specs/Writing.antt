@@ -1,5 +1,5 @@
 -- What the writer puts down, from a trusted office's view, and what a call of it gives.
-use Rattle.std.specs.Prelude.{ℕ, ◌+◌, ◌*◌, ◌-◌, ◌/◌, ◌%◌, Bool, false, not, List, [], ◌∷◌, ◌++◌, eqb, ltb, length, replicate}
+use Rattle.std.specs.Prelude.{ℕ, ◌*◌, ◌-◌, ◌/◌, ◌%◌, Bool, false, not, List, [], ◌∷◌, ◌++◌, eqb, ltb, length, replicate}
 use Rattle.words.specs.Tests.{choose}
 use Rattle.words.specs.Refusals.{Refusal, ◌⇒◌, first}
 use Rattle.register.specs.declared.book.Book.{Book}

@@ -3,7 +3,6 @@ use mathlib.Core.Path.{◌≡◌, refl, sym, ◌∙◌}
 use mathlib.Core.Bool.{true, false}
 use native.Mathlib.Nat.{add-zero}
 use native.Mathlib.Omega.{arith}
-use borrow.Author.Tests.{not-true, not-false}
 use Rattle.register.specs.Books.{book_of}
 use Rattle.register.specs.Tables.{trusted}
 use Rattle.words.specs.Tests.{choose}
@@ -24,6 +23,6 @@ returns c =
     let some : trusted (book_of a.register) a.q ≡ true = sym c.is_trusted.ensures ∙ c.if-not-is_trusted.false in
     let line = c.write_office_line.ensures in
     let is =
-    office_some a.register a.q _ _ _ some c.final_block-last.ensures c.Chain-length.ensures
+    office_some a.register a.q _ _ _ some c.final_block-last.ensures c.chain_length-size.ensures
     c.notarised-told.ensures in
     (rw is line.0, line.1)

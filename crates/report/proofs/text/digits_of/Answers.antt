@@ -1,6 +1,6 @@
-use Prim.Native.Nat.{ℕ, zero, suc, ◌+◌, ◌*◌, ◌-◌, ◌^◌, ◌≤◌, ◌<◌}
+use Prim.Native.Nat.{ℕ, zero, suc, ◌+◌, ◌*◌, ◌^◌, ◌≤◌, ◌<◌}
 use mathlib.Core.Path.{◌≡◌, refl}
-use native.Mathlib.Nat.{pow-suc}
+use native.Mathlib.Nat.{pow-suc, pow-le-pow_right}
 use native.Mathlib.Numerals.{add-one}
 use native.Mathlib.Omega.{arith}
 use lib.ListN.{length}
@@ -22,6 +22,12 @@ returns-then-size-eq19 c =
     let turn = c.loop-power in
     let reached : 10 ^ 19 ≤ n = omega (arith, rw c.if-size-eq19.true at turn.invariant.2) in
     (omega (arith, decimal_short 19 n (omega arith) (omega arith), decimal_long 19 n (omega arith) reached), omega arith)
+
+pub overflow_mul-power : goal.overflow_mul-power
+overflow_mul-power c =
+    let turn = c.loop-power in
+    let least : 10 ^ turn.size ≤ 10 ^ 18 = pow-le-pow_right {n = 10} (omega arith) {j = 18} (omega arith) in
+    omega (arith, turn.invariant.2)
 
 pub loop-power-preserved : goal.loop-power-preserved
 loop-power-preserved c =

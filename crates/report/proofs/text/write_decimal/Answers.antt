@@ -22,10 +22,10 @@ loop-rest-preserved c =
       rw c.put_digit.ensures (last_first l.report a.at l.place l.rest fits more l.invariant.2) ∙ l.invariant.3,
     )
 
-pub shape_of-report : goal.shape_of-report
-shape_of-report c = same_size (returns c).0
-
 pub returns : goal.returns
 returns c =
     let digit : decimal c.loop-rest.rest ≡ (48 + c.loop-rest.rest) ∷ [] = decimal_one _ (omega arith) in
     (record { counted = search rules; laid = c.put_digit-2.ensures ∙ (rw digit at c.loop-rest.invariant.3) }, search rules)
+
+pub shape_of-report : goal.shape_of-report
+shape_of-report c = same_size (returns c).0

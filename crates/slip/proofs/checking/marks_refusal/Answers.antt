@@ -1,6 +1,5 @@
 use mathlib.Core.Path.{◌≡◌, sym, ◌∙◌}
 use native.Mathlib.Omega.{arith}
-use borrow.Author.Tests.{not-true, not-false}
 use Rattle.words.specs.Tests.{choose}
 use Rattle.tables.specs.Blocks.{parent_in}
 use Rattle.tables.proofs.Chains.{parent_in_lt}
@@ -33,7 +32,7 @@ bounds-history-at c = omega (arith, c.loop-at.invariant.below)
 pub returns-then-not-is_within : goal.returns-then-not-is_within
 returns-then-not-is_within c =
     untrue _ _ _ _ _ _ c.loop-at.invariant c.loop-at-test.true _ (read (goal.at.returns-then-not-is_within c).After-read_field-row)
-    (sym c.is_Within.ensures ∙ c.if-not-is_within.true) _
+    (sym c.is_within.ensures ∙ c.if-not-is_within.true) _
 
 pub loop-at-smaller : goal.loop-at-smaller
 loop-at-smaller c = rw c.parent_at-at.ensures (parent_in_lt _ _ _ c.loop-at-test.true)
@@ -42,7 +41,7 @@ pub loop-at-preserved : goal.loop-at-preserved
 loop-at-preserved c =
     rw c.parent_at-at.ensures
     (judged_more _ _ _ _ _ _ c.loop-at.invariant c.loop-at-test.true _ (read (goal.at.loop-at-preserved c).After-read_field-row)
-    (sym c.is_Within.ensures ∙ c.if-not-is_within.false) _ c.is_link-notarised.ensures)
+    (sym c.is_within.ensures ∙ c.if-not-is_within.false) _ c.is_link-notarised.ensures)
 
 pub returns-then-notarised : goal.returns-then-notarised
 unfolding choose

@@ -1,4 +1,3 @@
-use Prim.Native.Nat.{◌-◌}
 use mathlib.Core.Path.{ap, ◌∙◌}
 use native.Mathlib.Omega.{arith}
 use lib.ListN.{length}
@@ -7,15 +6,11 @@ use Rattle.tables.proofs.Chains.{parent_in_lt}
 use Rattle.packed_log.proofs.BitsLaws.{length_put}
 use Rattle.slip.proofs.WritingLaws.{Laid, laid_pad, laid_next, laid_row, laid_all}
 use Rattle.slip.proofs.writing.lay_slip.Goals as goal
-use Rattle.slip.proofs.writing.lay_slip.Goals.{At-loop-at, Start}
-
--- where the call started, seen from the loop
-abbrev start : At-loop-at → Start
-start c = c.before.before.before.before.before.before
+use Rattle.slip.proofs.writing.lay_slip.Goals.{At-loop-at}
 
 -- what the loop has laid over the slice as it was lent
-laid : (c : At-loop-at) → (let a = (start c).args in Laid a.slip.now a.rows.now (parent_in a.parents.now a.last) a.n a.b a.due c.loop-at.slip c.loop-at.end c.loop-at.at)
-laid c = c.loop-at.invariant _ (start c).requires c.write_field.ensures
+laid : (c : At-loop-at) → (let a = c.args in Laid a.slip.now a.rows.now (parent_in a.parents.now a.last) a.n a.b a.due c.loop-at.slip c.loop-at.end c.loop-at.at)
+laid c = c.loop-at.invariant _ c.requires c.write_field.ensures
 
 pub overflow_mul-pad : goal.overflow_mul-pad
 overflow_mul-pad c = omega (arith, c.requires.3)
@@ -28,7 +23,7 @@ loop-at-init c l h e = laid_pad l _ _ _ _ _ h _ e
 
 pub overflow_sub-end : goal.overflow_sub-end
 overflow_sub-end c =
-    laid_next _ _ _ _ _ _ (start (goal.at.overflow_sub-end c).At-loop-at).pre (parent_in_lt _ _) c.loop-at-test.true (laid (goal.at.overflow_sub-end c).At-loop-at)
+    laid_next _ _ _ _ _ _ c.requires (parent_in_lt _ _) c.loop-at-test.true (laid (goal.at.overflow_sub-end c).At-loop-at)
 
 pub overflow_cast-at : goal.overflow_cast-at
 overflow_cast-at c = omega (arith, (laid (goal.at.overflow_cast-at c).At-loop-at).below)
@@ -48,9 +43,9 @@ loop-at-preserved c l h e =
     (laid_row l _ _ _ _ _ h (parent_in_lt _ _) c.loop-at-test.true (c.loop-at.invariant l h e)
     c.write_field-in-loop-at.ensures)
 
-pub shape_of-slip : goal.shape_of-slip
-shape_of-slip c = ap length (returns c) ∙ length_put _ _ _
-
 pub returns : goal.returns
 returns c =
-    laid_all _ _ _ _ _ _ (start (goal.at.returns c).At-loop-at).requires (omega arith) (laid (goal.at.returns c).At-loop-at) c.write_field-2.ensures
+    laid_all _ _ _ _ _ _ c.requires (omega arith) (laid (goal.at.returns c).At-loop-at) c.write_field-2.ensures
+
+pub shape_of-slip : goal.shape_of-slip
+shape_of-slip c = ap length (returns c) ∙ length_put _ _ _

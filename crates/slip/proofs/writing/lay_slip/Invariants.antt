@@ -11,8 +11,8 @@ use Rattle.slip.proofs.writing.lay_slip.Given as goal
 -- the slice as it was lent is not at hand in the loop: this holds of each that is as is required, and that the pad was laid over
 abbrev pub invariant-loop-at : goal.invariant-loop-at
 invariant-loop-at l =
-    (l : List ℕ) → Due l (parent_in l.parents l.last) l.n l.b l.due → l.initial.slip ≡ with_field l l.due (8 * length l - l.due) 0
-    → Laid l l.rows (parent_in l.parents l.last) l.n l.b l.due l.slip l.end l.at
+    (s : List ℕ) → Due s (parent_in l.parents l.last) l.n l.b l.due → l.initial.slip ≡ with_field s l.due (8 * length s - l.due) 0
+    → Laid s l.rows (parent_in l.parents l.last) l.n l.b l.due l.slip l.end l.at
 
 abbrev pub decreases-loop-at : goal.decreases-loop-at
 decreases-loop-at l = l.at
