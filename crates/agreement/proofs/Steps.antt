@@ -25,9 +25,9 @@ use Rattle.register.specs.declared.table.Header.{Header}
 use Rattle.register.specs.declared.table.OfficeState.{OfficeState}
 use Rattle.register.specs.declared.book.Book.{Book}
 use Rattle.register.specs.Books.{block}
-use Rattle.register.specs.Tables.{trusted, acted, parent_of, epoch_of, named, signer_of, about_of, final_of, is_vote}
+use Rattle.register.specs.Tables.{acted, parent_of, epoch_of, named, signer_of, about_of, final_of, is_vote}
 use Rattle.register.specs.Views.{says}
-use Rattle.register.specs.Chains.{chain, chain_length, longest}
+use Rattle.register.specs.Chains.{chain, chain_length}
 use Rattle.register.specs.Refusals.{in_history}
 use Rattle.register.specs.Effects.{with_block, with_named, with_sent, with_moved, with_acted, with_state, with_next_epoch}
 use Rattle.register.specs.Steps.{propose, vote, finalise, bad_send, rule_of, book_rule}

@@ -7,7 +7,7 @@ use native.Mathlib.Omega.{arith}
 use borrow.Author.Tests.{le-ltb}
 use lib.Dec.{leb}
 use lib.ListN.{length, get_or}
-use Rattle.words.specs.Tests.{choose, both, all, every, member}
+use Rattle.words.specs.Tests.{choose, both, every, member}
 use Rattle.words.specs.Sums.{tally}
 use Rattle.words.proofs.Tests.{both_left, both_right, both_make, implied, implies, all_at, all_make, every_same}
 use Rattle.words.proofs.Sums.{tally_ext}
