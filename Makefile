@@ -4,8 +4,9 @@
 #   make install          installs below PREFIX, /usr/local if not given; a packager's DESTDIR is put before it
 #   make uninstall        removes what was installed
 #   make timing           a static library for measuring slips, which is not installed
+#   make program          the program check_log, below target/ too; it is not installed
 #
-# The libraries are built again where anything below crates/ is newer. After a change of the toolchain: make -B.
+# All are built again where anything below crates/ is newer, but for what rt keeps there in out/. After a change of the toolchain: make -B.
 
 PREFIX = /usr/local
 LIBDIR = $(PREFIX)/lib
@@ -17,6 +18,10 @@ INSTALL = install
 libraries = skovarnek skovarnek_slip
 calls_of_skovarnek = skovarnek_check
 calls_of_skovarnek_slip = skovarnek_slip_check skovarnek_slip_write
+# The crates whose static libraries they are: skovarnek_slip itself is a library for Rattle.
+crate_of_skovarnek = skovarnek
+crate_of_skovarnek_slip = skovarnek_slip_c
+crate_of_slip_timing = slip_timing
 about_skovarnek = A proved checker of Streamlet logs
 about_skovarnek_slip = Proved slips: what is final in a Streamlet log, for those who hold no office
 
@@ -27,23 +32,36 @@ version := $(abi).$(call number,PATCH)
 
 static = target/staticlib/lib$(1).a
 shared = target/sharedlib/lib$(1).so.$(version)
+program = target/bin/check_log
 lib = $(DESTDIR)$(abspath $(LIBDIR))
 include = $(DESTDIR)$(abspath $(INCLUDEDIR))
 installs = $(libraries:%=install-%)
 uninstalls = $(libraries:%=uninstall-%)
 
-.PHONY: all timing install uninstall $(installs) $(uninstalls)
+.PHONY: all timing program install uninstall $(installs) $(uninstalls)
 .DELETE_ON_ERROR:
-# One rt at a time works below target/.
+# One rt at a time works below crates/.
 .NOTPARALLEL:
 
 all: $(foreach name,$(libraries),$(call static,$(name)) $(call shared,$(name)))
 
 timing: $(call static,slip_timing)
 
-# The folders are named too: they are newer where a file was removed.
-$(call static,%): crates.txt $(shell find crates)
-	rt staticlib $*
+program: $(program)
+
+# The folders are named too: they are newer where a file was removed. Those of whole crates are left out, since rt makes and removes out/ in them.
+sources := crates.txt $(shell find crates -mindepth 2 -path 'crates/*/out' -prune -o -print)
+
+$(call static,%): $(sources)
+	cd crates/$(crate_of_$*) && rt lib
+	mkdir -p $(@D)
+	cp crates/$(crate_of_$*)/out/lib$(crate_of_$*).a $@
+
+# rt builds a program only where it also runs it: here on a log of no bytes.
+$(program): $(sources)
+	cd crates/check_log && rt run </dev/null >/dev/null
+	mkdir -p $(@D)
+	cp crates/check_log/out/check_log $@
 
 $(call shared,%): $(call static,%) include/skovarnek.h Makefile
 	mkdir -p $(@D)

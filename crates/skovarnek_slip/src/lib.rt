@@ -1,4 +1,4 @@
-// Slips as calls for C: see include/skovarnek_slip.h.
+// Slips about whole logs, as skovarnek_slip_c gives them to C: see include/skovarnek_slip.h.
 #![tactic(auto)]
 
 ghost use Rattle.std.specs.Prelude.{◌≡◌, ◌%◌, ◌≤◌};
@@ -17,8 +17,7 @@ fn answer(refusal: u8, value: usize) -> u32
 }
 
 // Runs the log and checks the slip against the register behind its last step: the block that the slip proves final, or the refusal times 65,536.
-#[unsafe(no_mangle)]
-pub extern "C" fn skovarnek_slip_check(log: &[u8], slip: &[u8]) -> u32
+pub fn skovarnek_slip_check(log: &[u8], slip: &[u8]) -> u32
     ensures { result ≡ slip_checked log.now slip.now }
 {
     let end = run_log(log);
@@ -32,8 +31,7 @@ pub extern "C" fn skovarnek_slip_check(log: &[u8], slip: &[u8]) -> u32
 
 // Runs the log and writes a slip about that block from that office's view: the length of the slip, or the refusal times 65,536; then no byte is
 // changed. No slip is longer than SKOVARNEK_LONGEST_SLIP.
-#[unsafe(no_mangle)]
-pub extern "C" fn skovarnek_slip_write(log: &[u8], office: u8, block: u8, slip: &mut [u8]) -> u32
+pub fn skovarnek_slip_write(log: &[u8], office: u8, block: u8, slip: &mut [u8]) -> u32
     ensures { (result ≡ slip_written log.now office block slip.old)
         × (slip.new ≡ slip_after log.now office block slip.old)
         × (result % 65536 ≤ 1021) }
