@@ -42,10 +42,10 @@ fn longest_report() {
 fn bound_of_a_report() {
     let for_each_byte = number_in(HEADER, "SKOVARNEK_LONGEST_LOG ? ");
     let for_offices = number_in(HEADER, "(size_t)(log_len) + ");
-    let steps = number_in(REPORTS, "mostSteps size = ");
-    let offices = number_in(REPORTS, "mostSteps size * stepBytes + ");
-    assert_eq!(for_each_byte, steps * number_in(LINES, "stepBytes = "));
-    assert_eq!(for_offices, offices * number_in(LINES, "officeBytes = "));
+    let steps = number_in(REPORTS, "most_steps size = ");
+    let offices = number_in(REPORTS, "most_steps size * step_bytes + ");
+    assert_eq!(for_each_byte, steps * number_in(LINES, "step_bytes = "));
+    assert_eq!(for_offices, offices * number_in(LINES, "office_bytes = "));
     for length in [0, 1, 53, LONGEST_LOG - 1, LONGEST_LOG] {
         let header = for_each_byte * length + for_offices;
         assert_eq!(header, report_bound(length));
@@ -60,6 +60,6 @@ fn longest_slip() {
     let header = number_in(SLIP_HEADER, "SKOVARNEK_LONGEST_SLIP ");
     assert_eq!(header, LONGEST_SLIP);
     assert_eq!(header, slip_bytes(32, 255));
-    let contract = number_in("crates/skovarnek_slip/src/lib.rt", "(r % 65536 ≤ ");
+    let contract = number_in("crates/skovarnek_slip_c/src/lib.rt", "(result % 65536 ≤ ");
     assert_eq!(header, contract);
 }

@@ -85,7 +85,7 @@ fn steps() {
         assert_eq!(row[0], kind.name);
         let names: Vec<String> = kind.fields.into_iter().map(|(name, _)| name).collect();
         assert_eq!(row[1], names.join(", "), "{}", row[0]);
-        let rule = row[0].replace("bad send", "badSend");
+        let rule = row[0].replace(" ", "_");
         let definition = format!("abbrev pub {rule} : Book");
         let order = order_in("crates/register/specs/Steps.antt", &definition);
         assert_eq!(row[2], format!("5 {}", order.join(" ")), "{}", row[0]);
@@ -95,14 +95,14 @@ fn steps() {
 #[test]
 fn refusals_of_the_writer() {
     let writing = |definition| order_in("crates/packed_log/specs/Writing.antt", definition);
-    let opening = order_in("crates/quorum/specs/Opening.antt", "pub openingTests : ");
+    let opening = order_in("crates/quorum/specs/Opening.antt", "pub opening_tests : ");
     let wanted = [
         (
             "write_opening",
-            [opening, writing("pub openingRefused : ")].concat(),
+            [opening, writing("pub opening_refused : ")].concat(),
         ),
-        ("write_step", writing("pub rowRefused : ")),
-        ("write_end", writing("pub endRefused : ")),
+        ("write_step", writing("pub row_refused : ")),
+        ("write_end", writing("pub end_refused : ")),
     ];
     let wanted = wanted.map(|(call, order)| vec![call.to_string(), order.join(" ")]);
     assert_rows(&table(FORMAT, &["call", "refusals, in order"]), &wanted);
