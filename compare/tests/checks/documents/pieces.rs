@@ -23,17 +23,31 @@ fn is_use(line: &str) -> bool {
     line.trim_start_matches("ghost ").starts_with("use ")
 }
 
-/// The lines of `use`, and each function with its comment, stand in one file. The
-/// file may have other lines of `use` between these.
+/// What the lines of `use` of a text bring in, each name with its path: one line
+/// may name several in braces.
+fn imported(text: &str) -> Vec<String> {
+    let code = text.lines().filter(|line| !line.starts_with(['/', '#']));
+    let code = code.collect::<Vec<_>>().join(" ");
+    let items = code.split(';').map(str::trim_start);
+    let names = items.filter(|item| is_use(item)).flat_map(|item| {
+        let (path, names) = item.split_once('{').unwrap_or((item, ""));
+        let names = names.trim_end_matches('}').split(',');
+        names.map(move |name| format!("{path}{}", name.trim()))
+    });
+    names.collect()
+}
+
+/// What the lines of `use` bring in, and each function with its comment, stand in
+/// one file. The file may bring in more.
 fn stands_in(piece: &str, file: &str) -> bool {
     let code = text_of(file);
+    let brought_in = imported(&code);
     piece.split("\n\n").all(|part| {
         let part = part.trim_end();
-        let whole = |part: &str| format!("\n{code}\n").contains(&format!("\n{part}\n"));
         if part.lines().all(is_use) {
-            part.lines().all(whole)
+            imported(part).iter().all(|name| brought_in.contains(name))
         } else {
-            whole(part)
+            format!("\n{code}\n").contains(&format!("\n{part}\n"))
         }
     })
 }
