@@ -8,15 +8,20 @@ ghost use Rattle.std.specs.Prelude.{◌≡◌, ◌≤◌, ◌<◌, length, take,
 ghost use Rattle.report.specs.Reports.{report_of, longest_report, given_length, buffer_after};
 
 use input::{asks_for_usage, read_input};
-use libc::STDIN_FILENO;
 use output::{complain, complain_of_usage, print_report, print_usage};
 use report::{LONGEST_REPORT, check};
+use std::env::{Env, FillError};
+use std::fs::File;
+use std::io::Read;
 
 // One byte more than a log may have: enough for a long log to be refused as such.
 const LOG_ROOM: usize = 65537;
 
 // As many bytes as the longest report can have.
 const REPORT_ROOM: usize = LONGEST_REPORT;
+
+// As many bytes as a file's name may have for the program to take it.
+const NAME_ROOM: usize = 4096;
 
 // Room for a log, all zero.
 fn log_buffer() -> [u8; LOG_ROOM]
@@ -44,57 +49,67 @@ fn check_first(log: &[u8], size: usize, report: &mut [u8]) -> usize
 }
 
 // Checks the log in an open file and prints its report. A file that can't be read gives no report, but a sentence that names it.
-fn check_open(file: i32, name: &[u8]) {
+fn check_open(rt: &HostRuntime, file: &mut impl Read, name: &[u8]) {
     let mut log = log_buffer();
     let mut report = report_buffer();
     let input = read_input(file, &mut log);
     if input.failed {
-        complain(name, b" can't be read\n");
+        complain(rt, name, b" can't be read\n");
         return;
     }
     let length = check_first(&log, input.size, &mut report);
-    print_report(&report, length);
+    print_report(rt, &report, length);
+}
+
+// Opens the file of that name, if it can be. A name that is no UTF-8 names no file that can be opened here.
+fn open_named(rt: &HostRuntime, name: &[u8]) -> Option<File> {
+    let path = str::from_utf8(name).ok()?;
+    File::open(rt, path).ok()
 }
 
 // Checks the log in the file of that name.
-fn check_named(name: &[u8]) {
-    let file = os::open_read(name);
-    if file < 0 {
-        complain(name, b" can't be opened\n");
-        return;
+fn check_named(rt: &HostRuntime, name: &[u8]) {
+    match open_named(rt, name) {
+        Some(mut file) => check_open(rt, &mut file, name),
+        None => complain(rt, name, b" can't be opened\n"),
     }
-    check_open(file, name);
-    libc::close(file);
 }
 
-// Does what the one argument asks for: the line of use, or the check of the file that it names.
-fn take_argument() {
-    let mut room = io::buffer();
-    let length = os::arg(1, &mut room);
-    if os::errno() != 0 {
-        complain(b"the file's name", b" is too long\n");
-        return;
-    }
-    if length == 0 {
-        complain(b"the file's name", b" is empty\n");
-        return;
-    }
-    let argument = &room[..length];
+// Does what an argument asks for: the line of use, or the check of the file that it names.
+fn do_as_asked(rt: &HostRuntime, argument: &[u8]) {
     if asks_for_usage(argument) {
-        print_usage();
+        print_usage(rt);
     } else {
-        check_named(argument);
+        check_named(rt, argument);
+    }
+}
+
+// Takes the one argument, if it is one that names something.
+fn take_argument(rt: &HostRuntime) {
+    let mut room = [0; NAME_ROOM];
+    match rt.arg(1, &mut room) {
+        Ok(0) => complain(rt, b"the file's name", b" is empty\n"),
+        Ok(length) => do_as_asked(rt, &room[..length]),
+        Err(_) => complain(rt, b"the file's name", b" is too long\n"),
+    }
+}
+
+// Whether the program was given an argument at that place, behind its own name. One that is longer than the room for it here is given too.
+fn is_given(rt: &HostRuntime, place: usize) -> bool {
+    let mut room = [0; 1];
+    match rt.arg(place, &mut room) {
+        Err(FillError::NotPresent) => false,
+        _ => true,
     }
 }
 
 // With no argument the log is on standard input; one argument is taken, and more are too many.
-fn main() {
-    let words = os::arg_count();
-    if words > 2 {
-        complain_of_usage();
-    } else if words == 2 {
-        take_argument();
+fn main(rt: HostRuntime) {
+    if is_given(&rt, 2) {
+        complain_of_usage(&rt);
+    } else if is_given(&rt, 1) {
+        take_argument(&rt);
     } else {
-        check_open(STDIN_FILENO, b"standard input");
+        check_open(&rt, &mut rt.stdin(), b"standard input");
     }
 }

@@ -4,8 +4,8 @@
 ghost use Rattle.std.specs.Prelude.{◌≡◌, ◌≤◌};
 ghost use Rattle.reader_case.specs.Counts.{opened, counted, count_of};
 
-use libc::STDOUT_FILENO;
 use packed_log::{Item, Reader};
+use std::io;
 
 // How many steps have been read; the refusal that was met, 0 where there is none; and whether there is more to read.
 #[derive(Drop)]
@@ -64,27 +64,25 @@ fn count_steps(log: &[u8]) -> Count
     count
 }
 
-fn print(text: &[u8]) {
-    io::write_all(STDOUT_FILENO, text);
+fn print(rt: &impl Print, text: &str) -> io::Result<()> {
+    print!(rt; "{text}")
 }
 
 // Prints what reading a log gives.
-fn print_count(name: &[u8], log: &[u8]) {
+fn print_count(rt: &impl Print, name: &str, log: &[u8]) -> io::Result<()> {
     let count = count_steps(log);
-    print(name);
-    print(b": steps ");
-    io::print_decimal(STDOUT_FILENO, count.steps as u64);
-    print(b", refused ");
-    io::print_decimal(STDOUT_FILENO, count.refusal as u64);
-    print(b"\n");
+    print(rt, name)?;
+    let steps = count.steps;
+    let refusal = count.refusal;
+    println!(rt; ": steps {steps}, refused {refusal}")
 }
 
-fn main() {
-    print_count(b"no bytes", b"");
-    print_count(b"no offices", b"\x00\x00");
-    print_count(b"no steps", b"\x0F\x80\xC0\x00\x00");
-    print_count(b"three steps", b"\x0F\x80\xC0\x00\x44\x40\x00");
-    print_count(b"no end", b"\x0F\x80\xC0\x00\x44\x40");
-    print_count(b"pad bit set", b"\x0F\x80\xC0\x00\x44\x40\x01");
-    print_count(b"no such step", b"\x0F\x80\xC0\x00\x44\x78");
+fn main(rt: HostRuntime) -> io::Result<()> {
+    print_count(&rt, "no bytes", b"")?;
+    print_count(&rt, "no offices", b"\x00\x00")?;
+    print_count(&rt, "no steps", b"\x0F\x80\xC0\x00\x00")?;
+    print_count(&rt, "three steps", b"\x0F\x80\xC0\x00\x44\x40\x00")?;
+    print_count(&rt, "no end", b"\x0F\x80\xC0\x00\x44\x40")?;
+    print_count(&rt, "pad bit set", b"\x0F\x80\xC0\x00\x44\x40\x01")?;
+    print_count(&rt, "no such step", b"\x0F\x80\xC0\x00\x44\x78")
 }
