@@ -1,5 +1,5 @@
 -- Counts: what is left of a log makes a count whole, one item at a time, and each item but the last leaves fewer bits.
-use Prim.Native.Nat.{ℕ, suc, ◌+◌, ◌≤◌, ◌<◌}
+use Prim.Native.Nat.{ℕ, zero, suc, ◌+◌, ◌≤◌, ◌<◌}
 use mathlib.Core.Path.{◌≡◌, refl, ap}
 use mathlib.Core.Bool.{Bool, true, false}
 use mathlib.Core.List.{List}
@@ -51,6 +51,7 @@ count_moves log p c more = rw (body_begins log p, more) (moves c.steps c.refusal
 -- and there are fewer turns left
 fewer : (log : List ℕ) (p : ℕ) (c : Count) (x : Skipped) → Outcome log p x → c.more ≡ true → turns log (counted c (with_fields log p x)) x.next < turns log c p
 unfolding turns choose counted with_fields
+fewer log p c _ (refused zero some) more = elim some [ ]
 fewer log p c x (refused (suc k) some) more = rw (eqb-suc-zero, more) (omega arith)
 fewer log p c x (ended good none) more = rw more (omega arith)
 fewer log p c x (stepped good some) more = rw (ne_eqb (kind_at log p) 0 (omega arith), more) (omega (arith, good.head, good.fields))
