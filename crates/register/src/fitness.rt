@@ -107,9 +107,9 @@ fn offices_fit(offices: [OfficeState; OFFICES], n: u8, trust: u32, last: u8) -> 
 
 impl Book {
     // Every number in the tables of a book is in its range, where its single numbers are.
-    fn tables_fit(self) -> bool
-        requires { Counted (scalars_of self) }
-        ensures { result ≡ conj (tables_fit self) }
+    fn tables_fit(&self) -> bool
+        requires { Counted (scalars_of self.now) }
+        ensures { result ≡ conj (tables_fit self.now) }
     {
         let n = self.n;
         let last = self.last.0;
@@ -121,14 +121,21 @@ impl Book {
     }
 
     // Every number of the book is in its range; payloads, places and kinds of messages are no matter. The counts come first, so that no table is
-    // read past its end.
-    pub fn is_fit(self) -> bool
-        ensures { result ≡ fit self }
+    // read past its end. The book is lent, so that the test costs no copy of it.
+    pub fn fits(&self) -> bool
+        ensures { result ≡ fit self.now }
     {
         if !counts_fit(self.scalars()) {
             return false;
         }
         self.tables_fit()
+    }
+
+    // The same of a book that is handed over.
+    pub fn is_fit(self) -> bool
+        ensures { result ≡ fit self }
+    {
+        self.fits()
     }
 }
 

@@ -21,4 +21,4 @@ pub use book::Book;
 pub use sorts::{Block, Epoch, Kind, Message, Office, Stage};
 pub use step::Step;
 pub use steps::are_consecutive;
-pub use table::{Content, Header, Notarised, OfficeState, Opened, Ran, Register, Stepped};
+pub use table::{Answers, Content, Header, Notarised, OfficeState, Opened, Ran, Register, Stepped};

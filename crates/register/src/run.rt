@@ -2,7 +2,6 @@
 ghost use Rattle.std.specs.Prelude.{◌≡◌, ◌≤◌, min, take};
 ghost use Rattle.register.specs.Limits.{batch};
 ghost use Rattle.register.specs.Books.{register_of};
-ghost use Rattle.register.specs.Fitness.{fit};
 ghost use Rattle.register.specs.Steps.{step_rule};
 ghost use Rattle.register.specs.Runs.{ran};
 ghost use Rattle.register.specs.Promises.{Sizes};
@@ -13,7 +12,7 @@ pub use crate::limits::BATCH;
 use crate::sorts::{Block, Epoch, Kind, Message, Office};
 use crate::step::Step;
 use crate::steps::judge::judge;
-use crate::table::{Ran, Register, Stepped};
+use crate::table::{Answers, Ran, Register, Stepped};
 
 // Steps that are run in one call.
 pub type Batch = [Step; BATCH];
@@ -26,12 +25,14 @@ fn in_batch(count: usize) -> usize
 }
 
 impl Book {
-    // Runs the first steps of a batch. The book has been found fit, or not, which no step alters. It is changed in place, so that a step costs no copy
+    // Runs the first steps of a batch. The book is tested once, since no step alters its fitness. It is changed in place, so that a step costs no copy
     // of it.
-    fn run(mut self, fits: bool, steps: Batch, limit: usize) -> Ran
-        requires { (fits ≡ fit self) × Sizes self × (limit ≤ batch) }
-        ensures { result ≡ ran (register_of self) (take limit steps) }
+    fn run(&mut self, steps: Batch, limit: usize) -> Answers
+        requires { Sizes self.old × (limit ≤ batch) }
+        ensures { record { register = register_of self.new; refusals = result.refusals; values = result.values }
+            ≡ ran (register_of self.old) (take limit steps) }
     {
+        let fits = self.fits();
         let mut refusals = [0u8; BATCH];
         let mut values = [0u16; BATCH];
         let mut settled = 0;
@@ -83,21 +84,35 @@ impl Book {
             values[i] = c.answer.value;
             i += 1;
         }
-        Ran {
-            register: self.register(),
-            refusals,
-            values,
-        }
+        Answers { refusals, values }
     }
 }
 
 impl Register {
-    // Runs the first steps of a batch. The register's fitness is tested once, since steps keep it.
+    // Runs the first steps of a batch.
     pub fn run(self, steps: Batch, count: usize) -> Ran
         ensures { result ≡ ran self (take (min count batch) steps) }
     {
-        let book = self.book();
-        book.run(book.is_fit(), steps, in_batch(count))
+        let mut register = self;
+        let answers = register.run_on(steps, count);
+        let refusals = answers.refusals;
+        let values = answers.values;
+        Ran {
+            register,
+            refusals,
+            values,
+        }
+    }
+
+    // The same in place, for whoever has little room on the stack: the register is changed, and the answers are given.
+    pub fn run_on(&mut self, steps: Batch, count: usize) -> Answers
+        ensures { record { register = self.new; refusals = result.refusals; values = result.values }
+            ≡ ran self.old (take (min count batch) steps) }
+    {
+        let mut book = self.book();
+        let answers = book.run(steps, in_batch(count));
+        *self = book.register();
+        answers
     }
 }
 

@@ -79,6 +79,13 @@ pub struct Ran {
     pub values: [u16; BATCH],
 }
 
+// What a batch of steps answers, where the register is changed in place: the refusal and the value of each step at its place.
+#[derive(Clone, Copy)]
+pub struct Answers {
+    pub refusals: [u8; BATCH],
+    pub values: [u16; BATCH],
+}
+
 // What the notarised test tells of a block in an office's view: whether it is notarised there, and how many different offices signed it.
 #[derive(Clone, Copy)]
 pub struct Notarised {

@@ -24,9 +24,15 @@ pub(crate) fn write_run(report: &mut [u8], log: &[u8], from: usize, register: Re
             break;
         }
         let slots = part.slots;
-        let ran = current.run(steps_of(slots), count);
-        current = ran.register;
-        next = write_batch(report, next, place, &ran.refusals, &ran.values, count);
+        let answers = current.run_on(steps_of(slots), count);
+        next = write_batch(
+            report,
+            next,
+            place,
+            &answers.refusals,
+            &answers.values,
+            count,
+        );
         place += count;
         at = part.next;
     }

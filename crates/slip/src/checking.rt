@@ -121,7 +121,7 @@ fn slip_refusal(book: Book, slip: &[u8], b: u8) -> u8
     requires { Sizes book }
     ensures { result ≡ first (check_tests book slip.now b) }
 {
-    if !book.is_fit() {
+    if !book.fits() {
         return register::refusal::UNFIT_REGISTER;
     }
     let last = book.last.0;

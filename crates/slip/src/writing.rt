@@ -35,7 +35,7 @@ fn refused(number: u8) -> Written
 fn rule_refusal(book: Book, office: Office, b: Block) -> u8
     ensures { result ≡ first (rule_tests book office.0 b.0) }
 {
-    if !book.is_fit() {
+    if !book.fits() {
         return register::refusal::UNFIT_REGISTER;
     }
     let n = book.n;

@@ -9,11 +9,11 @@ use Rattle.register.proofs.Ranges.{fit_counts}
 use Rattle.slip.specs.Slips.{bits_due, formed}
 use Rattle.slip.proofs.CheckLaws.{bits_due_by, formed_by, formed_room}
 use Rattle.slip.proofs.checking.slip_refusal.Goals as goal
-use Rattle.slip.proofs.checking.slip_refusal.Goals.{After-is_formed, Else-not-is_fit}
+use Rattle.slip.proofs.checking.slip_refusal.Goals.{After-is_formed, Else-not-fits}
 
 -- past 5 the book is fit
-fits : (c : Else-not-is_fit) → fit c.args.book ≡ true
-fits c = sym c.is_fit.ensures ∙ c.if-not-is_fit.false
+fits : (c : Else-not-fits) → fit c.args.book ≡ true
+fits c = sym c.fits.ensures ∙ c.if-not-fits.false
 
 -- where the form is tested: so many bits are due
 due : (c : After-is_formed) → c.bits_due-due.result ≡ bits_due c.args.book c.args.b
@@ -31,16 +31,16 @@ room c holds =
     c.bits_due-due.ensures.1
 
 pub bits_due-due-requires : goal.bits_due-due-requires
-bits_due-due-requires c = (fit_counts _ (fits (goal.at.bits_due-due-requires c).Else-not-is_fit)).offices
+bits_due-due-requires c = (fit_counts _ (fits (goal.at.bits_due-due-requires c).Else-not-fits)).offices
 
 pub judge-requires : goal.judge-requires
 judge-requires c =
     let tested = (goal.at.judge-requires c).After-is_formed in
     let there = room tested c.if-not-is_formed.false in
-    (fits (goal.at.judge-requires c).Else-not-is_fit, c.requires, due tested, there.0, there.1)
+    (fits (goal.at.judge-requires c).Else-not-fits, c.requires, due tested, there.0, there.1)
 
-pub returns-then-not-is_fit : goal.returns-then-not-is_fit
-returns-then-not-is_fit c = search turns depth 7
+pub returns-then-not-fits : goal.returns-then-not-fits
+returns-then-not-fits c = search turns depth 7
 
 pub returns-then-last-b : goal.returns-then-last-b
 returns-then-last-b c = search turns depth 7

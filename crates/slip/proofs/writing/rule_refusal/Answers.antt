@@ -15,11 +15,11 @@ use Rattle.register.proofs.Finalising.{not_final_lem, is_final}
 use Rattle.register.proofs.Answering.{found_notarised}
 use Rattle.slip.specs.Writing.{rule_tests}
 use Rattle.slip.proofs.writing.rule_refusal.Goals as goal
-use Rattle.slip.proofs.writing.rule_refusal.Goals.{After-is_notarised_above, Else-not-are_consecutive, Else-not-is_fit, Else-not-trusted_at, Start}
+use Rattle.slip.proofs.writing.rule_refusal.Goals.{After-is_notarised_above, Else-not-are_consecutive, Else-not-fits, Else-not-trusted_at, Start}
 
 -- past 5 the book is fit
-fits : (c : Else-not-is_fit) → fit c.args.book ≡ true
-fits c = sym c.is_fit.ensures ∙ c.if-not-is_fit.false
+fits : (c : Else-not-fits) → fit c.args.book ≡ true
+fits c = sym c.fits.ensures ∙ c.if-not-fits.false
 
 -- past 10 the finalise rule decides
 last : (c : Else-not-trusted_at) (x : ℕ) → (let a = c.args in x ≡ first ((not_final a.book a.office.0 a.b.0 ⇒ 21) ∷ []) → x ≡ first (rule_tests a.book a.office.0 a.b.0))
@@ -33,15 +33,15 @@ small s = search rules
 found : (c : After-is_notarised_above) → (let a = c.args in c.is_notarised_above.result ≡ finalises a.book a.office.0 a.b.0)
 unfolding finalises
 found c =
-    let holds = sym c.is_fit.ensures ∙ c.if-not-is_fit.false in
+    let holds = sym c.fits.ensures ∙ c.if-not-fits.false in
     let counts = fit_counts c.args.book holds in
     is_final c.args.book _ _ _ _ _ c.parent_at.ensures
     c.parent_at-2.ensures c.are_consecutive.ensures _ c.if-not-are_consecutive.false-raw
     (found_notarised _ _ _ _ _ counts.messages counts.offices (omega arith) (omega arith)
     (sym c.trusted_at.ensures ∙ c.if-not-trusted_at.false) (genesis_notarised _ _) c.is_notarised_above.ensures)
 
-pub returns-then-not-is_fit : goal.returns-then-not-is_fit
-returns-then-not-is_fit c = search turns depth 7
+pub returns-then-not-fits : goal.returns-then-not-fits
+returns-then-not-fits c = search turns depth 7
 
 pub returns-then-n-office : goal.returns-then-n-office
 returns-then-n-office c = search turns depth 7
@@ -62,7 +62,7 @@ returns-then-not-are_consecutive c =
 
 pub overflow_cast-count : goal.overflow_cast-count
 overflow_cast-count c =
-    omega (arith, (fit_counts _ (fits (goal.at.overflow_cast-count c).Else-not-is_fit)).messages)
+    omega (arith, (fit_counts _ (fits (goal.at.overflow_cast-count c).Else-not-fits)).messages)
 
 pub returns-then-not-is_notarised_above : goal.returns-then-not-is_notarised_above
 returns-then-not-is_notarised_above c =

@@ -1,9 +1,10 @@
 use borrow.Author.Rules.{rules}
-use Prim.Native.Nat.{◌<◌}
+use Prim.Native.Nat.{ℕ, ◌<◌}
 use mathlib.Core.Path.{◌≡◌, refl}
 use native.Mathlib.Omega.{arith}
-use lib.ListN.{length, get_or}
-use Rattle.register.specs.Types.{Step, Book, Actor}
+use mathlib.Core.List.{List}
+use lib.ListN.{get_or}
+use Rattle.register.specs.Types.{Block, Step, Book, Actor}
 use Rattle.register.specs.Limits.{batch}
 use Rattle.register.specs.Books.{office, block}
 use Rattle.register.specs.Tables.{state_of}
@@ -16,62 +17,40 @@ use Rattle.register.proofs.Carrying.{CarriesOut, carries_read}
 use Rattle.register.proofs.Settling.{acts}
 use Rattle.register.proofs.Running.{held_none, held_next, held_counts, held_all}
 use Rattle.register.proofs.book.Book.run.Goals as goal
-use Rattle.register.proofs.book.Book.run.Goals.{After-judge-arg-in-loop-i-7-1, After-judge-c, After-scalars, After-settled_base, In-loop-i, Start}
+use Rattle.register.proofs.book.Book.run.Goals.{After-judge-c, In-loop-i}
 
--- a batch has all its steps
-long : (s : Start) → length s.args.steps ≡ batch
-long s = omega arith
-
--- in the loop i is below their number
+-- in the loop i is below the number of a batch's steps
 below : (c : In-loop-i) → c.loop-i.i < batch
-below c = omega (arith, c.requires.2)
+below c = omega (arith, c.requires.1)
 
--- the step of a turn, and the book that it is made on
-abbrev step : In-loop-i → Step
-step c = get_or c.args.steps c.loop-i.i (Step.Propose (office 0) (block 0) 0)
+-- the step of a turn, and its actor on the book of the turn
+abbrev step : List Step → ℕ → Step
+step steps i = get_or steps i (Step.Propose (office 0) (block 0) 0)
 
-abbrev book : In-loop-i → Book
-book c = c.loop-i.self
+abbrev actor : Book → ℕ → Block → Actor
+actor book at base = record { at = at; state = state_of book at; base = base }
 
--- the turn, seen from where its actor has been read
-abbrev turn : After-settled_base → In-loop-i
-turn c = c.before.before.before.before.before
-
--- its actor
-abbrev actor : After-settled_base → Actor
-actor c =
-    let at = c.place_of-at.result in
-    record { at = at; state = state_of (book (turn c)) at; base = c.settled_base.result }
-
-acting : (c : After-settled_base) → Acts (book (turn c)) (step (turn c)) (actor c)
+-- what is known of the actor, seen from where the step has been judged
+acting : (c : After-judge-c) → (let book = c.loop-i.self in Acts book (step c.args.steps c.loop-i.i) (actor book c.place_of-at.result c.settled_base.result))
 acting c =
-    let office = c.actor_of-office.ensures in
     let place = c.place_of-at.ensures in
-    acts _ _ _ _ (actor c) office place.0 place.1 refl c.settled_base.ensures.0 (turn c).loop-i.invariant.1.settled
-    c.settled_base.ensures.1
-
--- the single numbers have been read, seen from where the columns are lent
-abbrev read : After-judge-arg-in-loop-i-7-1 → After-scalars
-read c = c.before.before.before.before.before.before.before.before
-
--- the turn, seen from where the step has been judged
-abbrev judged_turn : After-judge-c → In-loop-i
-judged_turn c = (turn (read c.before).before)
+    let base = c.settled_base.ensures in
+    acts _ _ _ _ (actor c.loop-i.self c.place_of-at.result c.settled_base.result) c.actor_of-office.ensures place.0 place.1 refl base.0
+    c.loop-i.invariant.1.settled base.1
 
 -- the change carries the step out
-carried : (c : After-judge-c) → CarriesOut (judged_turn c).args.fits (book (judged_turn c)) (step (judged_turn c)) c.judge-c.result
+carried : (c : After-judge-c) → CarriesOut c.fits-fits.result c.loop-i.self (step c.args.steps c.loop-i.i) c.judge-c.result
 carried c =
-    let at = read c.before in
-    let a = acting at.before in
-    let start = judged_turn c in
-    let state = refl {a = (actor at.before).state} in
-    carries_read (book start) (actor at.before).at a.within start.args.fits (step start) c.judge-c.result
-    at.scalars.result at.scalars.ensures (c.judge-c.ensures (book start) state) (held_counts start.loop-i.invariant.1)
+    let book = c.loop-i.self in
+    let a = acting c in
+    let state = refl {a = state_of book c.place_of-at.result} in
+    carries_read book c.place_of-at.result a.within c.fits-fits.result (step c.args.steps c.loop-i.i) c.judge-c.result
+    c.scalars.result c.scalars.ensures (c.judge-c.ensures book state) (held_counts c.loop-i.invariant.1)
     a.own
 
 pub loop-i-init : goal.loop-i-init
 unfolding fit
-loop-i-init c = (search rules, held_none _ _ _ c.requires.0 c.requires.1)
+loop-i-init c = (search rules, held_none _ _ _ c.fits-fits.ensures c.requires.0)
 
 pub offset_bounds-steps-i : goal.offset_bounds-steps-i
 offset_bounds-steps-i c = omega (arith, below (goal.at.offset_bounds-steps-i c).In-loop-i)
@@ -85,8 +64,12 @@ bounds-self-at c = c.place_of-at.ensures.1
 pub judge-c-requires : goal.judge-c-requires
 unfolding chain_notarised_by notarised signed stage chain
 judge-c-requires c =
-    let at = read (goal.at.judge-c-requires c).After-judge-arg-in-loop-i-7-1 in
-    rw (read (goal.at.judge-c-requires c).After-judge-arg-in-loop-i-7-1).scalars.ensures (held_counts (turn at.before).loop-i.invariant.1, record { within = (acting at.before).within; own = (acting at.before).own; base = (acting at.before).base })
+    let place = c.place_of-at.ensures in
+    let base = c.settled_base.ensures in
+    let a =
+    acts _ _ _ _ (actor c.loop-i.self c.place_of-at.result c.settled_base.result) c.actor_of-office.ensures place.0 place.1 refl base.0
+    c.loop-i.invariant.1.settled base.1 in
+    rw c.scalars.ensures (held_counts c.loop-i.invariant.1, record { within = a.within; own = a.own; base = a.base })
 
 pub bounds-self-b : goal.bounds-self-b
 bounds-self-b c = (carried (goal.at.bounds-self-b c).After-judge-c).within.block
@@ -128,32 +111,32 @@ pub bounds-self-q : goal.bounds-self-q
 bounds-self-q c = (carried (goal.at.bounds-self-q c).After-judge-c).within.office
 
 pub bounds-refusals-i : goal.bounds-refusals-i
-bounds-refusals-i c = below (judged_turn (goal.at.bounds-refusals-i c).After-judge-c)
+bounds-refusals-i c = below (goal.at.bounds-refusals-i c).In-loop-i
 
 pub offset_bounds-values-i : goal.offset_bounds-values-i
-offset_bounds-values-i c = omega (arith, below (judged_turn (goal.at.offset_bounds-values-i c).After-judge-c))
+offset_bounds-values-i c = omega (arith, below (goal.at.offset_bounds-values-i c).In-loop-i)
 
 pub bounds-values-i : goal.bounds-values-i
-bounds-values-i c = below (judged_turn (goal.at.bounds-values-i c).After-judge-c)
+bounds-values-i c = below (goal.at.bounds-values-i c).In-loop-i
 
 pub overflow_add-i : goal.overflow_add-i
-overflow_add-i c = omega (arith, below (judged_turn (goal.at.overflow_add-i c).After-judge-c))
+overflow_add-i c = omega (arith, below (goal.at.overflow_add-i c).In-loop-i)
 
 pub loop-i-smaller : goal.loop-i-smaller
-loop-i-smaller c = omega (arith, (judged_turn (goal.at.loop-i-smaller c).After-judge-c).loop-i-test.true)
+loop-i-smaller c = omega (arith, c.loop-i-test.true)
 
 pub loop-i-preserved : goal.loop-i-preserved
 unfolding written
 loop-i-preserved c =
-    let start = judged_turn (goal.at.loop-i-preserved c).After-judge-c in
-    let held = start.loop-i.invariant.1 in (
-      omega (arith, start.loop-i-test.true),
-      rw (c.settled_after-settled.ensures, (read (goal.at.loop-i-preserved c).After-judge-arg-in-loop-i-7-1).actor_of-office.ensures)
-          (held_next held _ (omega (arith, below start, long start.before.before)) c.judge-c.result (carried (goal.at.loop-i-preserved c).After-judge-c) (below start)
+    let held = c.loop-i.invariant.1 in
+    let low = below (goal.at.loop-i-preserved c).In-loop-i in (
+      omega (arith, c.loop-i-test.true),
+      rw (c.settled_after-settled.ensures, c.actor_of-office.ensures)
+          (held_next held _ (omega (arith, low)) c.judge-c.result (carried (goal.at.loop-i-preserved c).After-judge-c) low
           (λ fit. (held_counts held fit).offices)),
     )
 
 pub returns : goal.returns
 returns c =
     let end : c.loop-i.i ≡ c.args.limit = omega (arith, c.loop-i-test.false) in
-    rw (c.register.ensures, ← end) (held_all c.loop-i.invariant.1)
+    rw (← end) (held_all c.loop-i.invariant.1)
