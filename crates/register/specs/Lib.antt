@@ -1,5 +1,5 @@
 -- The rules of the register. Read in this order, after the specs of `tables`, where what single columns say is defined (each name that ends in
--- `In`, the four stages, `chain_by`). Lent, Changes and Settled are for contracts inside the crate alone.
+-- `_in`, the four stages, `chain_by`). Lent, Changes and Settled are for contracts inside the crate alone.
 pub mod Types
 pub mod Limits
 pub mod Books

@@ -1,5 +1,5 @@
 -- Offices, blocks and messages as the book holds them. Inside the rules a number is an ℕ; a rule's own parameters are of the four sorts. A
--- definition that ends in `In` speaks of columns and stands in the specs of `tables`; here it is said of a book.
+-- definition that ends in `_in` speaks of columns and stands in the specs of `tables`; here it is said of a book.
 use Rattle.std.specs.Prelude.{ℕ, ◌-◌, Bool, true, false, List, ltb, leb, get_or}
 use Rattle.words.specs.Tests.{choose, both, between}
 use Rattle.words.specs.Digits.{in_set}

@@ -1,5 +1,5 @@
--- Offices and blocks, by the columns that hold them. A definition that ends in `In` speaks of columns; the one of its name that ends in
--- `Of`, or in nothing, speaks of a register and stands in the specs of `register`.
+-- Offices and blocks, by the columns that hold them. A definition that ends in `_in` speaks of columns; the one of its name that ends in
+-- `_of`, or in nothing, speaks of a register and stands in the specs of `register`.
 use Rattle.std.specs.Prelude.{ℕ, ◌+◌, Bool, List, eqb, ltb, leb, get_or}
 use Rattle.words.specs.Tests.{choose, both, lowest}
 use Rattle.words.specs.Digits.{in_set}
