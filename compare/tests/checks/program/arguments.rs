@@ -4,6 +4,7 @@ use super::{LONGEST, assert_only_says, assert_says, at, ended, program, sample, 
 use skovarnek_compare::check;
 use std::ffi::OsStr;
 use std::fs::{self, File};
+use std::os::unix::ffi::OsStrExt;
 use std::path::Path;
 use std::process::Output;
 
@@ -120,4 +121,25 @@ fn long_names() {
 fn empty_name() {
     let output = with_word("");
     assert_only_says(&output, "check_log: the file's name is empty\n");
+}
+
+/// The program opens files by names that are text; any other name it repeats as it
+/// was given.
+#[test]
+fn name_that_is_no_text() {
+    let log = fs::read(sample("whole-case.log")).expect("a sample log");
+    let name = OsStr::from_bytes(b"no-text-\xFF.log");
+    let folder = std::env::temp_dir();
+    let path = folder.join(name);
+    fs::write(&path, &log).expect("a file of that name");
+    let output = with_file(&path);
+    fs::remove_file(&path).expect("the file is gone");
+    let sentence = [
+        b"check_log: ",
+        path.as_os_str().as_bytes(),
+        b" can't be opened\n",
+    ]
+    .concat();
+    assert_eq!(output.stderr, sentence);
+    assert_eq!(output.stdout, b"");
 }
