@@ -8,10 +8,9 @@ use native.Mathlib.Decide.{dec_le}
 use native.Mathlib.Omega.{arith}
 use lib.ListN.{length, get_or, take, drop}
 use lib.Seq.{take-suc, take-add}
-use Rattle.register.specs.declared.sorts.Office.{Office}
+use Rattle.register.specs.Types.{Office, Book}
 use Rattle.register.specs.declared.step.Step.{Step}
 use Rattle.register.specs.declared.table.Register.{Register}
-use Rattle.register.specs.declared.book.Book.{Book}
 use Rattle.register.specs.Books.{book_of}
 use Rattle.register.specs.Tables.{final_of}
 use Rattle.register.specs.Chains.{chain, begins}

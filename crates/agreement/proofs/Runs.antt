@@ -15,14 +15,10 @@ use Rattle.quorum.specs.Opening.{untrusted, too_many, stray, opening_refusal}
 use Rattle.tables.specs.Blocks.{trusted_in, made_in, parent_in, epoch_in, matches_in, named_in}
 use Rattle.tables.specs.Messages.{says_in}
 use Rattle.tables.specs.Chains.{climb, chain_by}
-use Rattle.register.specs.declared.sorts.Office.{Office}
-use Rattle.register.specs.declared.sorts.Block.{Block}
-use Rattle.register.specs.declared.sorts.Message.{Message}
-use Rattle.register.specs.declared.sorts.Kind.{Kind}
+use Rattle.register.specs.Types.{Office, Block, Message, Kind}
 use Rattle.register.specs.declared.step.Step.{Step}
 use Rattle.register.specs.declared.table.Stepped.{Stepped}
-use Rattle.register.specs.Books.{office, epoch, block, book_of, register_of}
-use Rattle.register.specs.Tables.{is_vote}
+use Rattle.register.specs.Books.{office, epoch, block, is_vote, kind_of, book_of, register_of}
 use Rattle.register.specs.Views.{stage, signed, signer_set, notarised, signers_on, notarised_test}
 use Rattle.register.specs.Chains.{chain, begins, chain_notarised_by, longest}
 use Rattle.register.specs.Fitness.{counts_fit, block_fits, message_fits, state_fits, fit}
@@ -202,7 +198,7 @@ pub record Forked : Type 0 where
 
 -- they do, as the rules compute
 pub runs_show : Started × Forked
-unfolding final_chain chain_of Trusted Notarised moment start start_steps fork fork_steps answers after_steps step_rule book_of register_of opened opening fresh opening_refusal untrusted too_many stray choose both either between conj all any lowest every tally weigh unit digit fill set_of with_member with_stage first enough trusted_in made_in parent_in epoch_in matches_in named_in says_in climb chain_by is_vote stage signed signer_set notarised signers_on chain chain_notarised_by longest counts_fit block_fits message_fits state_fits fit consecutive finalises leader_table blank fresh_book with_block with_named sent_stage with_sent with_moved with_acted with_state with_next_epoch rule_of refusal judged book_rule
+unfolding final_chain chain_of Trusted Notarised moment start start_steps fork fork_steps answers after_steps step_rule book_of register_of opened opening fresh opening_refusal untrusted too_many stray choose both either between conj all any lowest every tally weigh unit digit fill set_of with_member with_stage first enough trusted_in made_in parent_in epoch_in matches_in named_in says_in climb chain_by is_vote kind_of stage signed signer_set notarised signers_on chain chain_notarised_by longest counts_fit block_fits message_fits state_fits fit consecutive finalises leader_table blank fresh_book with_block with_named sent_stage with_sent with_moved with_acted with_state with_next_epoch rule_of refusal judged book_rule
 runs_show = (
   record { refusals = refl; seen = record { finalist = refl; is_final = refl; viewer = refl; is_notarised = refl; is_chain = refl } },
   record { refusals = refl; seen = record { finalist = refl; is_final = refl; viewer = refl; is_notarised = refl; is_chain = refl }; later = refl; other = refl; forked = refl; shorter = refl; signed_there = refl; signed_elsewhere = refl; told_there = refl; told_elsewhere = refl; told_genesis = refl; told_nobody = refl },

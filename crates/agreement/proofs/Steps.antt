@@ -15,17 +15,12 @@ use Rattle.words.specs.Digits.{digit}
 use Rattle.words.proofs.Tests.{both_right, either_left, either_right, any_at}
 use Rattle.words.proofs.Digits.{member_put}
 use Rattle.tables.specs.Messages.{history_in}
-use Rattle.register.specs.declared.sorts.Office.{Office}
-use Rattle.register.specs.declared.sorts.Block.{Block}
-use Rattle.register.specs.declared.sorts.Message.{Message}
-use Rattle.register.specs.declared.sorts.Kind.{Kind}
+use Rattle.register.specs.Types.{Office, Block, Message, Kind, Header, Book}
 use Rattle.register.specs.declared.step.Step.{Step}
 use Rattle.register.specs.declared.table.Content.{Content}
-use Rattle.register.specs.declared.table.Header.{Header}
 use Rattle.register.specs.declared.table.OfficeState.{OfficeState}
-use Rattle.register.specs.declared.book.Book.{Book}
-use Rattle.register.specs.Books.{block}
-use Rattle.register.specs.Tables.{acted, parent_of, epoch_of, named, signer_of, about_of, final_of, is_vote}
+use Rattle.register.specs.Books.{block, is_vote}
+use Rattle.register.specs.Tables.{acted, parent_of, epoch_of, named, signer_of, about_of, final_of}
 use Rattle.register.specs.Views.{says}
 use Rattle.register.specs.Chains.{chain, chain_length}
 use Rattle.register.specs.Refusals.{in_history}

@@ -5,10 +5,8 @@ use mathlib.Core.Bool.{true}
 use mathlib.Core.List.{List}
 use native.Mathlib.Omega.{arith}
 use lib.ListN.{length}
-use Rattle.register.specs.declared.sorts.Office.{Office}
-use Rattle.register.specs.declared.sorts.Block.{Block}
+use Rattle.register.specs.Types.{Office, Block, Book}
 use Rattle.register.specs.declared.step.Step.{Step}
-use Rattle.register.specs.declared.book.Book.{Book}
 use Rattle.register.specs.Books.{book_of}
 use Rattle.register.specs.Tables.{trusted, final_of}
 use Rattle.register.specs.Chains.{chain, begins, chain_notarised}

@@ -1,7 +1,6 @@
 -- What is claimed of every run, whole.
 use Rattle.std.specs.Prelude.{ℕ, ◌+◌, suc, ◌<◌, ◌≤◌, ◌≡◌, true, List, ◌⊎◌, length, get_or, take, drop}
-use Rattle.register.specs.declared.sorts.Office.{Office}
-use Rattle.register.specs.declared.sorts.Block.{Block}
+use Rattle.register.specs.Types.{Office, Block}
 use Rattle.register.specs.declared.step.Step.{Step}
 use Rattle.register.specs.declared.table.Register.{Register}
 use Rattle.register.specs.Books.{book_of}
@@ -79,10 +78,10 @@ BatchesAreMoments = (run : Run) (i k : ℕ) → (ran (moment run i) (take k (dro
 
 -- of two registers: every block of the first is there in the second with its parent, epoch and payload, and every message with what it says
 pub record Kept (r s : Register) : Type 0 where
-  pub last : r.last.0 ≤ s.last.0
-  pub blocks : (b : ℕ) → b ≤ r.last.0 → header_of (book_of s) b ≡ header_of (book_of r) b
-  pub count : r.count ≤ s.count
-  pub messages : (m : ℕ) → m < r.count → content_of (book_of s) m ≡ content_of (book_of r) m
+  pub last : r.blocks.last.0 ≤ s.blocks.last.0
+  pub blocks : (b : ℕ) → b ≤ r.blocks.last.0 → header_of (book_of s) b ≡ header_of (book_of r) b
+  pub count : r.messages.count ≤ s.messages.count
+  pub messages : (m : ℕ) → m < r.messages.count → content_of (book_of s) m ≡ content_of (book_of r) m
 
 -- Blocks keep their numbers, parents and epochs throughout a list, so chains of two moments are compared by the same rule as chains of one; messages,
 -- too, are only added.

@@ -1,7 +1,7 @@
 // What the program is given: its argument, and the bytes of a log.
-ghost use Rattle.std.specs.Prelude.{◌≡◌, true, ◌∷◌, [], ◌≤◌, length};
+ghost use Rattle.std.specs.Prelude.{◌≡◌, true, ◌∷◌, [], ◌≤◌, length, IfOk};
 
-use std::io::Read;
+use std::io::{self, Read};
 
 // Whether an argument asks for the line of use: it is `--help`.
 pub fn asks_for_usage(argument: &[u8]) -> bool
@@ -11,32 +11,18 @@ pub fn asks_for_usage(argument: &[u8]) -> bool
     argument == b"--help".as_slice()
 }
 
-// What a file gave: how many bytes, and whether a read failed.
-#[derive(Drop)]
-pub struct Input {
-    pub size: usize,
-    pub failed: bool,
-}
-
-// Reads an open file to its end, or as far as there is room.
-pub fn read_input(file: &mut impl Read, log: &mut [u8]) -> Input
-    ensures { (result.size ≤ length log.new) × (length log.new ≡ length log.old) }
+// Reads an open file to its end, or as far as there is room, and gives how many bytes it gave. A turn goes on by as many as one read
+// gave, which no `for` does.
+pub fn read_input(file: &mut impl Read, log: &mut [u8]) -> io::Result<usize>
+    ensures { IfOk result (λ size. size ≤ length log.new) × (length log.new ≡ length log.old) }
 {
     let mut size = 0;
     while size < log.len() {
-        match file.read(&mut log[size..]) {
-            Ok(0) => {
-                return Input {
-                    size,
-                    failed: false,
-                };
-            }
-            Ok(more) => size += more,
-            Err(_) => return Input { size, failed: true },
+        let more = file.read(&mut log[size..])?;
+        if more == 0 {
+            break;
         }
+        size += more;
     }
-    Input {
-        size,
-        failed: false,
-    }
+    Ok(size)
 }

@@ -23,7 +23,8 @@ const REPORT_ROOM: usize = LONGEST_REPORT;
 // As many bytes as a file's name may have for the program to take it.
 const NAME_ROOM: usize = 4096;
 
-// Room for a log, all zero.
+// Room for a log, all zero. Each room has a function, whose contract names its size, so that a room too small is refused there; a generic one would have the
+// size from its caller.
 fn log_buffer() -> [u8; LOG_ROOM]
     ensures { result ≡ replicate 65537 0 }
 {
@@ -48,17 +49,18 @@ fn check_first(log: &[u8], size: usize, report: &mut [u8]) -> usize
     check(&log[..size], report)
 }
 
-// Checks the log in an open file and prints its report. A file that can't be read gives no report, but a sentence that names it.
+// Checks the log in an open file and prints its report. Names are bytes here and below, as an argument is: it need not be UTF-8, and is printed as it is. A
+// file that can't be read gives no report, but a sentence that names it.
 fn check_open(rt: &HostRuntime, file: &mut impl Read, name: &[u8]) {
     let mut log = log_buffer();
     let mut report = report_buffer();
-    let input = read_input(file, &mut log);
-    if input.failed {
-        complain(rt, name, b" can't be read\n");
-        return;
+    match read_input(file, &mut log) {
+        Ok(size) => {
+            let length = check_first(&log, size, &mut report);
+            print_report(rt, &report, length);
+        }
+        Err(_) => complain(rt, name, b" can't be read\n"),
     }
-    let length = check_first(&log, input.size, &mut report);
-    print_report(rt, &report, length);
 }
 
 // Opens the file of that name, if it can be. A name that is no UTF-8 names no file that can be opened here.
@@ -97,10 +99,7 @@ fn take_argument(rt: &HostRuntime) {
 // Whether the program was given an argument at that place, behind its own name. One that is longer than the room for it here is given too.
 fn is_given(rt: &HostRuntime, place: usize) -> bool {
     let mut room = [0; 1];
-    match rt.arg(place, &mut room) {
-        Err(FillError::NotPresent) => false,
-        _ => true,
-    }
+    !matches!(rt.arg(place, &mut room), Err(FillError::NotPresent))
 }
 
 // With no argument the log is on standard input; one argument is taken, and more are too many.

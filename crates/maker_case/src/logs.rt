@@ -16,8 +16,7 @@ pub fn write_log(buf: &mut [u8]) -> Wrote {
 
 // The item behind a log's opening: a step, the end or a refusal, and the position behind it.
 pub fn first_item(log: &[u8]) -> Read {
-    let opening = read_opening(log);
-    read_item(log, opening.next)
+    read_item(log, read_opening(log).next)
 }
 
 // The whole check, log bytes to report bytes.

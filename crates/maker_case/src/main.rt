@@ -8,7 +8,7 @@ mod slips;
 use logs::{first_item, whole_check, write_log};
 use packed_log::Item;
 use register::{Block, Message, Office};
-use registers::{first_step, print_block, print_message, print_number, waits_for};
+use registers::{first_step, print_block, print_message, waits_for};
 use replay::run_log;
 use slips::{check_deed, write_deed};
 use std::io;
@@ -19,43 +19,33 @@ const LOG_SIZE: usize = 12;
 // A register: office 0 has proposed block 1. The proposal waits for office 1 once it is delivered, and not before.
 fn show_register(rt: &impl Print) -> io::Result<()> {
     let stepped = first_step();
-    print_number(rt, "refusal ", stepped.refusal as u64)?;
-    print_number(rt, "message ", stepped.value as u64)?;
+    println!(rt; "refusal {}", stepped.refusal)?;
+    println!(rt; "message {}", stepped.value)?;
     let register = stepped.register;
-    print_block(rt, register, Office(0), Block(1))?;
-    print_message(rt, register, Message(0))?;
-    print_number(
-        rt,
-        "waits ",
-        waits_for(register, Office(1), Message(0)) as u64,
-    )?;
+    print_block(rt, &register, Office(0), Block(1))?;
+    print_message(rt, &register, Message(0))?;
+    let waits = waits_for(&register, Office(1), Message(0));
+    println!(rt; "waits {}", waits as u8)?;
     let delivered = register.deliver(Message(0), Office(1));
-    let register = delivered.register;
-    print_number(
-        rt,
-        "waits ",
-        waits_for(register, Office(1), Message(0)) as u64,
-    )
+    let waits = waits_for(&delivered.register, Office(1), Message(0));
+    println!(rt; "waits {}", waits as u8)
 }
 
 // A log of the same two steps, which fills its buffer.
 fn show_log(rt: &impl Print) -> io::Result<()> {
-    let mut buf = [0u8; LOG_SIZE];
-    let wrote = write_log(&mut buf);
-    print_number(rt, "refusal ", wrote.refusal as u64)?;
-    print_number(rt, "bits ", wrote.next as u64)?;
-    let log = &buf;
-    let read = first_item(log);
-    let item = read.item;
-    match item {
-        Item::Step(step) => print_number(rt, "a step, then ", read.next as u64)?,
-        Item::End => print_number(rt, "the end, then ", read.next as u64)?,
-        Item::Refused(number) => print_number(rt, "refused ", number as u64)?,
+    let mut log = [0u8; LOG_SIZE];
+    let wrote = write_log(&mut log);
+    println!(rt; "refusal {}", wrote.refusal)?;
+    println!(rt; "bits {}", wrote.next)?;
+    let read = first_item(&log);
+    match read.item {
+        Item::Step(_) => println!(rt; "a step, then {}", read.next)?,
+        Item::End => println!(rt; "the end, then {}", read.next)?,
+        Item::Refused(number) => println!(rt; "refused {number}")?,
     }
-    let end = run_log(log);
-    print_number(rt, "messages ", end.register.count as u64)?;
+    println!(rt; "messages {}", run_log(&log).register.messages.count)?;
     let mut report = [0u8; 1000];
-    print_number(rt, "report ", whole_check(log, &mut report) as u64)
+    println!(rt; "report {}", whole_check(&log, &mut report))
 }
 
 // One office alone: its block of epoch 2 makes that of epoch 1 final, and a slip of two bytes says so.
@@ -63,10 +53,10 @@ fn show_slip(rt: &impl Print) -> io::Result<()> {
     let log = b"\x06\x02\x00\x04\x00\x00\x00\xF0\x20\x01\x00\x08\x00";
     let mut slip = [0u8; 2];
     let written = write_deed(log, Office(0), Block(2), &mut slip);
-    print_number(rt, "slip ", written.length as u64)?;
+    println!(rt; "slip {}", written.length)?;
     let checked = check_deed(log, &slip);
-    print_number(rt, "refusal ", checked.refusal as u64)?;
-    print_number(rt, "final ", checked.block.0 as u64)
+    println!(rt; "refusal {}", checked.refusal)?;
+    println!(rt; "final {}", checked.block.0)
 }
 
 fn main(rt: HostRuntime) -> io::Result<()> {

@@ -14,16 +14,12 @@ pub fn write_deed(log: &[u8], office: Office, b: Block, buf: &mut [u8]) -> Writt
     ensures { (result ≡ written (book_of (end_of log.now).register) office.0 b.0 buf.old)
         × (buf.new ≡ buffer_after (book_of (end_of log.now).register) office.0 b.0 buf.old) }
 {
-    let end = run_log(log);
-    let register = end.register;
-    write_slip(register, office, b, buf)
+    write_slip(run_log(log).register, office, b, buf)
 }
 
 // Checks a slip at the end of a log: the block that it proves final, or why it is refused.
 pub fn check_deed(log: &[u8], slip: &[u8]) -> Checked
     ensures { result ≡ checked (book_of (end_of log.now).register) slip.now }
 {
-    let end = run_log(log);
-    let register = end.register;
-    check_slip(register, slip)
+    check_slip(run_log(log).register, slip)
 }

@@ -13,12 +13,12 @@ use Rattle.words.proofs.Tests.{both_false, both_fails, both_left, both_right}
 use Rattle.words.proofs.Turns.{turns}
 use Rattle.words.proofs.Refusals.{positive, Clear, first_clear}
 use Rattle.register.specs.declared.step.Step.{Step}
-use Rattle.packed_log.specs.declared.{item.Read.Read, item.Skipped.Skipped, row.Row.Row, item.Item.Item}
+use Rattle.packed_log.specs.declared.{item.Read.Read, item.Item.Item}
 use Rattle.packed_log.specs.declared.item.Item.TheVariants as items
 use Rattle.packed_log.specs.Bits.{num, field, to_bits, bits}
 use Rattle.packed_log.specs.Widths.{kinds, fields, width, due}
-use Rattle.packed_log.specs.Rows.{row_of, step_of, Narrow}
-use Rattle.packed_log.specs.Items.{left, kind_at, row_at, padded, item_tests, refusal_at, skipped, skipped_at, read, with_fields, item_at, numbers, numbers_at}
+use Rattle.packed_log.specs.Rows.{Row, row_of, step_of, Narrow}
+use Rattle.packed_log.specs.Items.{left, kind_at, row_at, padded, item_tests, refusal_at, Skipped, skipped, skipped_at, read, with_fields, item_at, numbers, numbers_at}
 use Rattle.packed_log.specs.Writing.{row_bits, step_bits, end_bits, wide}
 use Rattle.packed_log.proofs.{Judging.judging, BitsLaws.field_lt, BitsLaws.length_bits, BitRows.zero_bits}
 use Rattle.packed_log.proofs.RowLaws.{row_step, step_row, narrow}
@@ -66,14 +66,13 @@ module _ (log : List ℕ) (p : ℕ) where
         rw (unrefused good) (simp step)
 
 -- For `search skipping`: what is refused is skipped with its number, before a kind is read, and by the kind that was read
-pub refused_at : (log : List ℕ) (p number : ℕ) (x : Skipped) → x ≡ skipped 0 number p → number ≡ refusal_at log p → T (ltb 0 number)
-    → x ≡ skipped_at log p
+pub refused_at : (log : List ℕ) (p number : ℕ) → number ≡ refusal_at log p → T (ltb 0 number) → skipped 0 number p ≡ skipped_at log p
 unfolding skipped_at choose
-refused_at log p number x e same some = e ∙ rw (← same, ne_eqb number 0 (λ none. rw none at some))
+refused_at log p number same some = rw (← same, ne_eqb number 0 (λ none. rw none at some))
 
-pub refused_by : (log : List ℕ) (p kind number : ℕ) (x : Skipped) → x ≡ skipped 0 number p → kind ≡ kind_at log p
-    → number ≡ first (item_tests log p kind) → T (ltb 0 number) → x ≡ skipped_at log p
-refused_by log p kind number x e read same some = refused_at log p number x e (rw (← read) same) some
+pub refused_by : (log : List ℕ) (p kind number : ℕ) → kind ≡ kind_at log p → number ≡ first (item_tests log p kind) → T (ltb 0 number)
+    → skipped 0 number p ≡ skipped_at log p
+refused_by log p kind number read same some = refused_at log p number (rw (← read) same) some
 
 -- a step is refused by nothing behind it
 pub not_ended : (kind : ℕ) (b : Bool) → (kind ≡ 0 → ⊥) → both (eqb kind 0) b ≡ false

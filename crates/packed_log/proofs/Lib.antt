@@ -5,6 +5,7 @@ pub mod BitsLaws
 pub mod Windows
 pub mod FieldLaws
 pub mod RowLaws
+pub mod Stray
 pub mod OpeningLaws
 pub mod WritingLaws
 pub mod Standing

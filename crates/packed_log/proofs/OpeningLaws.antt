@@ -1,16 +1,17 @@
 -- Laws of openings: what their tests say; the trust word bit by bit, the leaders one by one; and the tests that reading an opening makes.
-use Prim.Native.Nat.{ℕ, ◌≤◌, ◌<◌, zero, suc, ◌+◌, ◌*◌, ◌%◌, ◌^◌}
+use Prim.Native.Nat.{ℕ, ◌≤◌, ◌<◌, zero, suc, ◌+◌, ◌*◌, ◌/◌, ◌%◌, ◌^◌}
 use mathlib.Core.Path.{◌≡◌, refl, sym, ap, ◌∙◌}
 use mathlib.Core.Bool.{true, false, Bool, not}
 use mathlib.Core.List.{List, [], ◌∷◌, ◌++◌}
-use native.Mathlib.{Nat.add-zero, Nat.mod-eq_of_lt, Numerals.add-one, Omega.arith}
-use borrow.Author.Tests.{not-false, leb-false, ltb-false, lt-ltb, ne_eqb}
+use native.Mathlib.{Nat.add-zero, Nat.min-le_left, Nat.mod-eq_of_lt, Numerals.add-one, Omega.arith}
+use mathlib.Core.Logic.{⊎_elim}
+use borrow.Author.Tests.{not-false, leb-false, ltb-false, lt-ltb, le-ltb, ne_eqb, eqb-true}
 use lib.Dec.{leb, eqb, ltb}
 use lib.ListN.{length, get_or, set, take, length-set}
 use lib.Seq.{take-suc, take-set-le, get_or-set_same}
 use Rattle.words.specs.Tests.{both, between, choose, any}
 use Rattle.words.specs.Refusals.{◌⇒◌, first}
-use Rattle.words.proofs.Tests.{any_none, between_true, clash, between_make}
+use Rattle.words.proofs.Tests.{decided, any_none, between_true, clash, between_make}
 use Rattle.words.proofs.Refusals.{positive, Clear, first_clear, first_before, first_behind}
 use Rattle.words.proofs.Digits.{pow_within, fill_next}
 use Rattle.quorum.specs.Opening.{untrusted, too_many, stray, opening_tests, opening_refusal}
@@ -18,7 +19,7 @@ use Rattle.register.specs.declared.table.Opened.{Opened}
 use Rattle.register.specs.Opening.{fresh, closed, opening}
 use Rattle.packed_log.specs.declared.opening.Opening.{Opening}
 use Rattle.packed_log.specs.{Bits.field, Items.left}
-use Rattle.packed_log.specs.Openings.{trust_in, leaders_at, count_in, length_in, there_in, front_tests, leader_tests, opening_tests_in, opened, opened_by, opening_in}
+use Rattle.packed_log.specs.Openings.{trust_in, leaders_at, count_in, length_in, there_in, front_tests, led_tests, leader_tests, opening_tests_in, opened, opened_by, opening_in}
 use Rattle.packed_log.proofs.BitsLaws.{field_lt}
 
 -- what the tests of an opening say, and what that means
@@ -101,6 +102,27 @@ led n trust k schedule low high some most =
     let offices : between 1 32 n ≡ true = between_make 1 32 n (low, high) in
     rw offices (by_tests (between 1 256 (length schedule)) (stray n schedule) (ltb (length schedule) k) (too_many (untrusted n trust) n) (empty n k schedule most some))
 
+-- the same refusal, by what code finds: the number that those that are there are refused with, and whether that is a stray leader
+module _ (n trust k : ℕ) (schedule : List ℕ) (low : 1 ≤ n) (high : n ≤ 32) (some : 1 ≤ k) (most : length schedule ≤ 256)
+    (r : ℕ) (opens : r ≡ opening_refusal n trust schedule)
+  where
+    -- some leader is missing and none is stray
+    pub led_cut : length schedule < k → eqb r 3 ≡ false → 27 ≡ first (led_tests n trust schedule k)
+    unfolding choose
+    led_cut short other = rw (← led n trust k schedule low high some most, ← opens, other, lt-ltb _ _ short)
+
+    -- some leader is stray
+    pub led_stray : eqb r 3 ≡ true → r ≡ first (led_tests n trust schedule k)
+    unfolding choose
+    led_stray stray = rw (← led n trust k schedule low high some most, ← opens, stray) (eqb-true r 3 stray)
+
+    -- none is missing
+    pub led_whole : k ≤ length schedule → r ≡ first (led_tests n trust schedule k)
+    led_whole enough = ⊎_elim (λ stray. led_stray stray) (λ other. all other) (decided (eqb r 3))
+      where
+        all : eqb r 3 ≡ false → r ≡ first (led_tests n trust schedule k)
+        all other = rw (← led n trust k schedule low high some most, ← opens, other, le-ltb _ _ enough) (unfold choose in refl)
+
 -- where the leaders are not refused, none is missing, and opening them is not refused
 told_none : (three cut : Bool) (refusal : ℕ) → choose three 3 (choose cut 27 refusal) ≡ 0 → (cut ≡ false) × (refusal ≡ 0)
 unfolding choose
@@ -113,32 +135,32 @@ opened_refused : (log : List ℕ) (n k refusal : ℕ) → (refusal ≡ 0 → ⊥
 unfolding opened_by choose
 opened_refused log n k refusal some = rw (ne_eqb refusal 0 some)
 
--- n offices and k leaders in their ranges; the leaders that are there have been opened, and the refusal of all was told from that
+-- n offices and k leaders in their ranges; the leaders that are there have been checked
 module _ (log : List ℕ) (n k : ℕ) (low : 1 ≤ n) (high : n ≤ 32) (some : 1 ≤ k) (most : k ≤ 256)
     (there : ℕ) (whole : there ≡ there_in log n k)
     (trust : ℕ) (word : trust ≡ trust_in log n) (schedule : List ℕ) (led-by : schedule ≡ leaders_at log (15 + n) there)
-    (o : Opened) (opens : o ≡ opening n trust schedule)
-    (refusal : ℕ) (told : refusal ≡ choose (eqb o.refusal 3) 3 (choose (ltb there k) 27 o.refusal))
+    (refusal : ℕ) (told : refusal ≡ first (led_tests n trust schedule k))
   where
-    -- that refusal is the first of the leaders' tests
+    long : length schedule ≡ there
+    long = rw led-by (length_leaders_at log (15 + n) there)
+
+    -- their refusal is the first of the leaders' tests
     same : refusal ≡ first (leader_tests log n k)
-    unfolding opening
-    same =
-        let long : length schedule ≡ there = rw led-by (length_leaders_at log (15 + n) there) in
-        told ∙ rw (opens, ← whole, ← word, ← led-by) (rw long at (led n trust k schedule low high some (omega arith)))
+    same = told ∙ rw (long, word, led-by, whole)
 
     -- some leader is refused
     pub leaders_refused : (x : Opening) → x ≡ opened closed refusal 0 → (refusal ≡ 0 → ⊥) → x ≡ opened_by log n k (first (leader_tests log n k))
     leaders_refused x e bad = e ∙ opened_refused log n k refusal bad ∙ ap (opened_by log n k) same
 
     -- none is
-    pub leaders_opened : refusal ≡ 0 → opened o.register refusal (15 + n + 5 * k) ≡ opened_by log n k (first (leader_tests log n k))
+    pub leaders_opened : refusal ≡ 0 → (o : Opened) → o ≡ opening n trust schedule
+        → opened o.register 0 (15 + n + 5 * k) ≡ opened_by log n k (first (leader_tests log n k))
     unfolding opened_by opening choose
-    leaders_opened good =
-        let clear : (ltb there k ≡ false) × (o.refusal ≡ 0) = told_none (eqb o.refusal 3) (ltb there k) o.refusal (sym told ∙ good) in
-        let all : there ≡ k = omega (arith, ltb-false there k clear.0) in
-        let opening-clear : opening_refusal n trust schedule ≡ 0 = sym (ap (λ (x : Opened). x.refusal) opens) ∙ clear.1 in
-        let held : o.register ≡ fresh n (trust_in log n) (leaders_at log (15 + n) k) = rw (← all, ← word, ← led-by) (ap (λ (x : Opened). x.register) opens ∙ rw opening-clear) in
+    leaders_opened good o opens =
+        let clear : (ltb (length schedule) k ≡ false) × (opening_refusal n trust schedule ≡ 0) = told_none (eqb (opening_refusal n trust schedule) 3) (ltb (length schedule) k) (opening_refusal n trust schedule) (led n trust k schedule low high some (omega (arith, long)) ∙ sym told ∙ good) in
+        let few : there ≤ k = rw whole (min-le_left k (left log (15 + n) / 5)) in
+        let all : there ≡ k = omega (arith, long, ltb-false (length schedule) k clear.0) in
+        let held : o.register ≡ fresh n (trust_in log n) (leaders_at log (15 + n) k) = rw (← all, ← word, ← led-by) (ap (λ (x : Opened). x.register) opens ∙ rw clear.1) in
         rw (← same, good, held)
 
 -- what holds where nothing is refused up to the schedule's length

@@ -14,7 +14,9 @@ use Rattle.words.proofs.Digits.{digit_lt, digit_fill, fill_ext}
 use Rattle.words.proofs.Refusals.{positive, Clear, first_clear}
 use Rattle.words.proofs.Sums.{tally_ext}
 use Rattle.quorum.specs.Opening.{untrusted, opening_refusal}
-use Rattle.register.specs.{declared.table.Register.Register, declared.book.Book.Book, Books.book_of}
+use Rattle.register.specs.declared.table.Register.{Register}
+use Rattle.register.specs.Types.{Book}
+use Rattle.register.specs.Books.{book_of}
 use Rattle.register.specs.Opening.{leader_table, blank, fresh_book, fresh, opening}
 use Rattle.register.proofs.Typing.{book_register}
 use Rattle.packed_log.specs.Bits.{to_bits, bits, field}

@@ -4,20 +4,22 @@ use mathlib.Core.Path.{◌≡◌, refl, ap, ◌∙◌}
 use mathlib.Core.Bool.{Bool, true, false}
 use mathlib.Core.List.{List}
 use native.Mathlib.Omega.{arith}
-use native.Mathlib.Nat.{add-zero, add-suc, suc-add, lt_of_lt_of_le}
+use native.Mathlib.Nat.{add-zero, add-suc, suc-add}
 use borrow.Author.Tests.{eqb-true, leb-true, leb-false}
-use lib.Dec.{eqb, leb, T, eqb-suc-zero, leb→le}
-use lib.Pow.{pow_mono}
-use mir.{Syntax.w8, Val.Fits}
+use lib.Dec.{eqb, leb, eqb-suc-zero}
+use lib.ListN.{length, get_or, set}
+use Rattle.std.proofs.Common.{◌≢◌, below_more, get_or-set_other, get_or-set_same}
+use native.Mathlib.Numerals.{add-one}
 use Rattle.words.specs.Tests.{both, all, choose}
 use Rattle.words.proofs.Tests.{both_left, both_right, all_at, either_false_left, either_false_right}
+use denote.Enum.Declared.{tag_of}
+use Rattle.register.specs.contracts.sorts.Kind.{the_type}
 use Rattle.register.specs.declared.{sorts.Kind.Kind, step.Step.Step}
-use Rattle.register.specs.declared.sorts.Kind.TheVariants.{Proposal, Vote as AVote}
+use Rattle.register.specs.Types.{Proposal, Vote as AVote}
 use Rattle.register.specs.declared.step.Step.TheVariants as steps
-use Rattle.packed_log.specs.declared.row.Row.{Row}
 use Rattle.packed_log.specs.Widths.{kinds, fields, width, due}
-use Rattle.packed_log.specs.Rows.{row, kind_number, kind_numbered, row_of, pick, steps_of, step_of, Narrow}
-use Rattle.packed_log.specs.{Items.row_at, Writing.wide}
+use Rattle.packed_log.specs.Rows.{Row, row, kind_number, kind_numbered, row_of, pick, steps_of, step_of, Narrow}
+use Rattle.packed_log.specs.{Bits.field, Items.row_at, Writing.wide}
 
 infixr 5 ◌&◌
 -- a pair, for a long chain of facts
@@ -69,16 +71,61 @@ dues_right = refl
 pub table_due : (kind : ℕ) → kind < kinds → (entry kind / 2 ^ 32 ≡ due kind) × (entry kind / 2 ^ 32 ≤ 64)
 table_due kind h = told (entry kind / 2 ^ 32) (due kind) 64 (all_at due_right kinds kind dues_right h)
 
--- k is none of the numbers 1 to n, as the last arm of a `match` says it
-unfoldable pub Other : (n k : ℕ) → Type 0
-Other zero k = Unit {0}
-Other (suc n) k = Other n k × (k ≡ suc n → ⊥)
+-- the bits that the columns before one take
+unfoldable pub ahead : (kind column : ℕ) → ℕ
+ahead kind zero = 0
+ahead kind (suc c) = ahead kind c + width kind c
 
--- such a number is 0 where it is not above n
-pub other : (n k : ℕ) → Other n k → k ≤ n → k ≡ 0
-unfolding Other
-other zero k h most = omega arith
-other (suc n) k h most = other n k h.0 (omega (arith, h.1))
+-- those before the next column
+pub ahead_next : (kind column : ℕ) → ahead kind (column + 1) ≡ ahead kind column + width kind column
+unfolding ahead
+ahead_next kind column = rw add-one
+
+-- a column ends within what is due
+pub ahead_due : (kind column : ℕ) → column < 4 → ahead kind column + width kind column ≤ due kind
+unfolding ahead
+ahead_due kind zero h = omega arith
+ahead_due kind (suc zero) h = omega arith
+ahead_due kind (suc (suc zero)) h = omega arith
+ahead_due kind (suc (suc (suc zero))) h = omega arith
+ahead_due kind (suc (suc (suc (suc c)))) h = absurd (omega arith)
+
+-- the row of a list of four numbers, one for each column
+abbrev pub of_list : (kind : ℕ) → List ℕ → Row
+of_list kind xs = row kind (get_or xs 0 0) (get_or xs 1 0) (get_or xs 2 0) (get_or xs 3 0)
+
+-- each of them has room in its column
+pub narrow_at : (kind : ℕ) (xs : List ℕ) (column : ℕ) → Narrow (of_list kind xs) → column < 4 → get_or xs column 0 < 2 ^ width kind column
+narrow_at kind xs zero room h = room.first
+narrow_at kind xs (suc zero) room h = room.second
+narrow_at kind xs (suc (suc zero)) room h = room.third
+narrow_at kind xs (suc (suc (suc zero))) room h = room.fourth
+narrow_at kind xs (suc (suc (suc (suc c)))) room h = absurd (omega arith)
+
+-- they are read where each column before them ends
+pub read_by : (log : List ℕ) (kind p : ℕ) (xs : List ℕ)
+    → ((k : ℕ) → k < 4 → get_or xs k 0 ≡ field log (p + ahead kind k) (width kind k)) → of_list kind xs ≡ row_at log kind p
+unfolding row_at ahead
+read_by log kind p xs h =
+    let p0 : p + ahead kind 0 ≡ p = omega arith in
+    let p1 : p + ahead kind 1 ≡ p + width kind 0 = omega arith in
+    let p2 : p + ahead kind 2 ≡ p + width kind 0 + width kind 1 = omega arith in
+    let p3 : p + ahead kind 3 ≡ p + width kind 0 + width kind 1 + width kind 2 = omega arith in
+    let x0 : get_or xs 0 0 ≡ field log p (width kind 0) = h 0 (omega arith) ∙ ap (λ q. field log q (width kind 0)) p0 in
+    let x1 : get_or xs 1 0 ≡ field log (p + width kind 0) (width kind 1) = h 1 (omega arith) ∙ ap (λ q. field log q (width kind 1)) p1 in
+    let x2 : get_or xs 2 0 ≡ field log (p + width kind 0 + width kind 1) (width kind 2) = h 2 (omega arith) ∙ ap (λ q. field log q (width kind 2)) p2 in
+    let x3 : get_or xs 3 0 ≡ field log (p + width kind 0 + width kind 1 + width kind 2) (width kind 3) = h 3 (omega arith) ∙ ap (λ q. field log q (width kind 3)) p3 in
+    rw (x0, x1, x2, x3)
+
+-- a loop's next turn: the numbers of the columns before one have been read, and now that of this one
+pub next_read : (log : List ℕ) (kind p column x : ℕ) (xs : List ℕ) → column < length xs
+    → ((k : ℕ) → k < column → get_or xs k 0 ≡ field log (p + ahead kind k) (width kind k))
+    → x ≡ field log (p + ahead kind column) (width kind column)
+    → (k : ℕ) → k < column + 1 → get_or (set xs column x) k 0 ≡ field log (p + ahead kind k) (width kind k)
+next_read log kind p column x xs inside before e =
+    below_more _ _
+    (λ k h. let ne : k ≢ column = omega arith in rw get_or-set_other (before k h))
+    (rw get_or-set_same e)
 
 -- the first field of each kind has at most ten bits
 all_narrow : all kinds (λ kind. leb (width kind 0) 10) ≡ true
@@ -93,6 +140,11 @@ kind_number_lem : (k : Kind) → kind_numbered (kind_number k) ≡ k
 unfolding kind_numbered choose
 kind_number_lem Proposal = refl
 kind_number_lem AVote = refl
+
+-- the code's cast of a kind of message is its number
+pub as_number : (k : Kind) → tag_of the_type k ≡ kind_number k
+as_number Proposal = refl
+as_number AVote = refl
 
 -- a number of one bit is got back from its kind of message
 number_kind : (k : ℕ) → k < 2 → kind_number (kind_numbered k) ≡ k
@@ -161,17 +213,3 @@ narrow r h = search (leb-false, either_false_left, either_false_right)
 pub kind_read : (log : List ℕ) (kind p : ℕ) (r : Row) → r ≡ row_at log kind p → r.kind ≡ kind
 unfolding row_at
 kind_read log kind p r e = ap (λ (x : Row). x.kind) e
-
--- For `search arms`: what an arm of a `match` knows of its step or kind.
-pub by_step : (s t : Step) (r : Row) → s ≡ t → r ≡ row_of t → r ≡ row_of s
-by_step s t r e f = rw e f
-
-pub by_kind : (r : Row) (kind : ℕ) (s : Step) → r.kind ≡ kind → s ≡ pick kind (steps_of r) → s ≡ step_of r
-unfolding step_of steps_of
-by_kind r kind s e f = rw e f
-
--- a number in a column of at most eight bits is a byte
-pub byte_column : (kind k column x : ℕ) → kind ≡ k → x < 2 ^ width kind column → T (leb (width k column) 8) → Fits w8 x
-byte_column kind k column x e room small = record { fits = lt_of_lt_of_le room (pow_mono {j = 8} (rw e (leb→le (width k column) 8 small))) }
-
-pub ruleset arms = (by_step, by_kind, byte_column, refl, tt)

@@ -1,26 +1,28 @@
 -- Laws of what the writer lays over a buffer: rows, openings, ends, and what its calls give.
 use Prim.Native.Nat.{ℕ, zero, suc, ◌+◌, ◌*◌, ◌-◌, ◌%◌, ◌^◌, ◌≤◌, ◌<◌}
 use mathlib.Core.Path.{◌≡◌, refl, sym, ◌∙◌}
-use mathlib.Core.Bool.{Bool, true, false, ◌||◌}
+use mathlib.Core.Bool.{Bool, true, false}
 use mathlib.Core.List.{List, [], ◌∷◌, ◌++◌, append_assoc, append-nil}
 use native.Mathlib.Nat.{add_assoc, zero-mul, mul-le-mul_right, mod-eq_of_lt}
 use native.Mathlib.{Numerals.add-one, Omega.arith}
 use borrow.Author.Tests.{ltb-false, ne_eqb}
-use lib.{Dec.leb, Pow.pow-add, Pow.pow_mono, Pow.pow_pos, Seq.length-take-le, Seq.take-suc}
+use lib.{Dec.leb, Dec.ltb, Pow.pow-add, Pow.pow_mono, Pow.pow_pos, Seq.length-take-le, Seq.take-suc}
 use lib.ListN.{length, length-append, length-replicate, get_or, take}
-use Rattle.words.specs.Tests.{choose, both, either}
+use Rattle.std.proofs.Common.{Result, Err}
+use Rattle.refusals.specs.declared.Refusal.{Refusal as Refused}
+use Rattle.refusals.specs.Numbers.{number_of}
+use Rattle.refusals.proofs.Numbers.{number_some}
+use Rattle.words.specs.Tests.{any, choose, both, either}
 use Rattle.words.specs.Refusals.{◌⇒◌, first, Refusal}
 use Rattle.words.specs.Digits.{digit}
-use Rattle.words.proofs.{Tests.or_either, Digits.digit_lt}
-use Rattle.words.proofs.Turns.{hit, skip, none as nothing}
+use Rattle.words.proofs.{Digits.digit_lt}
 use Rattle.words.proofs.Refusals.{positive, Clear, first_clear, first_before, first_behind}
 use Rattle.quorum.specs.Opening.{opening_tests, opening_refusal}
-use Rattle.packed_log.specs.declared.{row.Row.Row, writing.Wrote.Wrote}
-use Rattle.packed_log.specs.{Bits.to_bits, Bits.put, Rows.Narrow}
+use Rattle.packed_log.specs.{Rows.Row, declared.writing.Wrote.Wrote, Bits.to_bits, Bits.put, Rows.Narrow}
 use Rattle.packed_log.specs.Widths.{kinds, width, due}
-use Rattle.packed_log.specs.Writing.{office_bits, leader_bits, opening_bits, row_bits, end_bits, wide, room, short, HasRoom, row_refused, end_refused, wrote, laid, opening_refused}
+use Rattle.packed_log.specs.Writing.{office_bits, leader_bits, opening_bits, row_bits, end_bits, wide, room, short, HasRoom, no_room, row_refused, end_refused, wrote, wrote_by, laid, opening_refused}
 use Rattle.packed_log.proofs.BitRows.{length_to_bits, zero_bits, join_bits, bit_row}
-use Rattle.packed_log.proofs.{BitsLaws.put_put, RowLaws.narrow, Judging.counts_less, Judging.counts_most}
+use Rattle.packed_log.proofs.{BitsLaws.put_put, RowLaws.narrow, RowLaws.ahead, RowLaws.of_list}
 
 -- what is laid where the row before it ends
 pub put_next : (l : List ℕ) (p : ℕ) (t u : List Bool) (q : ℕ) → q ≡ p + length t → put (put l p t) q u ≡ put l p (t ++ u)
@@ -33,31 +35,40 @@ either_four true b c d = refl
 either_four false true c d = refl
 either_four false false c d = refl
 
--- For `search columns`: a number that has room in its column has room in a width that was looked up.
-pub in_column : (x w v : ℕ) → w ≡ v → x < 2 ^ v → x < 2 ^ w
-in_column x w v e h = rw e h
+-- the tests of the four columns are one test of each
+pub wide_any : (kind : ℕ) (fields : List ℕ) → any 4 (λ k. leb (2 ^ width kind k) (get_or fields k 0)) ≡ wide (of_list kind fields)
+unfolding wide any
+wide_any kind fields =
+    unfold either in either_four (leb (2 ^ width kind 0) (get_or fields 0 0)) (leb (2 ^ width kind 1) (get_or fields 1 0)) (leb (2 ^ width kind 2) (get_or fields 2 0)) (leb (2 ^ width kind 3) (get_or fields 3 0))
 
--- a number has no room in its column where it has none in that width
-pub over_column : (t : Bool) (x w v : ℕ) → t ≡ leb (2 ^ w) x → w ≡ v → t ≡ leb (2 ^ v) x
-over_column t x w v h e = h ∙ rw e
+-- the bits of a kind and of the columns before one
+unfoldable pub front_bits : (kind : ℕ) → List ℕ → (column : ℕ) → List Bool
+front_bits kind fields zero = to_bits 4 kind
+front_bits kind fields (suc c) = front_bits kind fields c ++ to_bits (width kind c) (get_or fields c 0)
 
--- the tests of four columns, joined
-pub any_column : (a b c d x y z t : Bool) → a ≡ x → b ≡ y → c ≡ z → d ≡ t → a || b || c || d ≡ either x (either y (either z t))
-any_column a b c d x y z t e f g h = rw (← e, ← f, ← g, ← h) (simp or_either (either_four a b c d))
+length_front : (kind : ℕ) (fields : List ℕ) (column : ℕ) → length (front_bits kind fields column) ≡ 4 + ahead kind column
+unfolding front_bits ahead
+length_front kind fields zero = length_to_bits 4 kind
+length_front kind fields (suc c) = rw (length-append, length_front kind fields c, length_to_bits) (add_assoc 4 (ahead kind c) (width kind c))
 
-pub ruleset columns = (in_column, over_column, any_column)
+-- those of all columns are the row
+pub front_all : (kind : ℕ) (fields : List ℕ) → front_bits kind fields 4 ≡ row_bits (of_list kind fields)
+unfolding front_bits row_bits
+front_all kind fields = simp append_assoc
 
--- a kind with its first field, and the other fields, laid one behind the other, are the row
-pub put_row : (r : Row) (p w0 w1 w2 w3 head : ℕ) (l l1 l2 l3 l4 : List ℕ)
-    → l4 ≡ put l3 (p + 4 + w0 + w1 + w2) (to_bits w3 r.fourth) → l3 ≡ put l2 (p + 4 + w0 + w1) (to_bits w2 r.third)
-    → l2 ≡ put l1 (p + 4 + w0) (to_bits w1 r.second) → l1 ≡ put l p (to_bits (4 + w0) head)
-    → head ≡ r.kind * 2 ^ w0 + r.first → r.first < 2 ^ w0
-    → w0 ≡ width r.kind 0 → w1 ≡ width r.kind 1 → w2 ≡ width r.kind 2 → w3 ≡ width r.kind 3
-    → l4 ≡ put l p (row_bits r)
-unfolding row_bits
-put_row r p w0 w1 w2 w3 head l l1 l2 l3 l4 h4 h3 h2 h1 joined small e0 e1 e2 e3 =
-    rw (h4, h3, h2, h1, joined, join_bits 4 w0 r.kind r.first small, ← e0, ← e1, ← e2, ← e3)
-    (simp (put_next, length-append, length_to_bits, add_assoc, append_assoc))
+-- a kind and its first field, as one number, are laid
+pub put_head : (l m : List ℕ) (p kind w head : ℕ) (fields : List ℕ) → w ≡ width kind 0 → head ≡ kind * 2 ^ w + get_or fields 0 0 → get_or fields 0 0 < 2 ^ w
+    → m ≡ put l p (to_bits (4 + w) head) → m ≡ put l p (front_bits kind fields 1)
+unfolding front_bits
+put_head l m p kind w head fields e joined small h = rw (h, joined, join_bits 4 w kind (get_or fields 0 0) small, ← e)
+
+-- a loop's next turn: the columns before one are laid, and now this one
+pub next_column : (l m m' : List ℕ) (p kind column w : ℕ) (fields : List ℕ) → m ≡ put l p (front_bits kind fields column) → w ≡ width kind column
+    → m' ≡ put m (p + 4 + ahead kind column) (to_bits w (get_or fields column 0)) → m' ≡ put l p (front_bits kind fields (column + 1))
+unfolding front_bits
+next_column l m m' p kind column w fields before e written =
+    written ∙ rw (before, e, add-one)
+    (put_next l p (front_bits kind fields column) (to_bits (width kind column) (get_or fields column 0)) (p + 4 + ahead kind column) (rw length_front (add_assoc p 4 (ahead kind column))))
 
 -- a kind with a first field of at most ten bits has room in 16 bits, and in those of both
 pub head_fits : (k w x : ℕ) → k < kinds → w ≤ 10 → x < 2 ^ w
@@ -136,25 +147,25 @@ pub call_refused : (l : List ℕ) (p k refusal : ℕ) (t : List Bool) → k ≡ 
 unfolding wrote laid choose
 call_refused l p k refusal t e some = rw (← e, ne_eqb k 0 some) (refl, refl)
 
+-- the same, of a call that left by `?` with that refusal
+pub call_left : (l : List ℕ) (p refusal : ℕ) (t : List Bool) (r : Result ℕ Refused) (y : Refused) → r ≡ Err y → number_of y ≡ refusal
+    → Promised l l (wrote_by r p) refusal p t
+call_left l p refusal t r y e same = rw e (call_refused l p (number_of y) refusal t same (number_some y))
+
 -- else the bits are laid, and the next position stands behind them
 pub call_laid : (l m : List ℕ) (p next k refusal : ℕ) (t : List Bool) → k ≡ refusal → k ≡ 0 → next ≡ p + length t → m ≡ put l p t
     → Promised l m (record { refusal = k; next = next }) refusal p t
 unfolding wrote laid choose
 call_laid l m p next k refusal t e none behind h = rw (← e, none, behind) (refl, h)
 
--- a call that only the buffer can refuse, with 31: the bits that it is to lay have been counted, and the room has been measured
-module _ (l : List ℕ) (p size left refusal : ℕ) (t : List Bool) (counted : size ≡ length t) (measured : left ≡ room l p)
-    (told : refusal ≡ first ((short l p t ⇒ 31) ∷ []))
+-- bits that were not refused for want of room have room
+pub enough_room : (l : List ℕ) (p size : ℕ) → 0 < size → 0 ≡ no_room l p size → HasRoom l p size
+unfolding first choose
+enough_room l p size some none = has_room l p size (room l p) some refl (no_less (ltb (room l p) size) refl (sym none))
   where
-    -- the buffer is too short
-    pub call_short : left < size → Promised l l (record { refusal = 31; next = p }) refusal p t
-    call_short full = call_refused l p 31 refusal t (hit _ 31 [] (counts_less left size _ _ measured counted full) ∙ sym told) (omega arith)
-
-    -- it is long enough
-    pub call_fits : (m : List ℕ) → size ≤ left → m ≡ put l p t → Promised l m (record { refusal = 0; next = p + size }) refusal p t
-    call_fits m enough h =
-        let none : 0 ≡ refusal = skip _ 0 31 [] (counts_most left size _ _ measured counted enough) nothing ∙ sym told in
-        call_laid l m p (p + size) 0 refusal t none refl (rw counted) h
+    no_less : (t : Bool) → ltb (room l p) size ≡ t → first ((t ⇒ 31) ∷ []) ≡ 0 → size ≤ room l p
+    no_less true e h = absurd (omega arith)
+    no_less false e h = ltb-false (room l p) size e
 
 -- a loop's next turn: the trust bits of the offices below q are laid, and now that of office q
 pub next_trust_bit : (l m m' : List ℕ) (p q trust d : ℕ) → m ≡ put l p (office_bits q trust) → d ≡ digit 2 trust q

@@ -1,14 +1,15 @@
 -- What stands at a bit position of a log.
-use Rattle.std.specs.Prelude.{ℕ, ◌+◌, ◌*◌, ◌-◌, Bool, not, List, [], ◌∷◌, eqb, ltb, leb, length}
+use Rattle.std.specs.Prelude.{ℕ, Result, Ok, Err, ◌+◌, ◌*◌, ◌-◌, Bool, not, List, [], ◌∷◌, eqb, ltb, leb, length}
+use Rattle.refusals.specs.declared.Refusal.{Refusal as Refused}
+use Rattle.refusals.specs.Numbers.{number_of}
 use Rattle.words.specs.Tests.{choose, both}
 use Rattle.words.specs.Refusals.{Refusal, ◌⇒◌, first}
-use Rattle.packed_log.specs.declared.row.Row.{Row}
 use Rattle.packed_log.specs.declared.item.Item.{Item}
 use Rattle.packed_log.specs.declared.item.Item.TheVariants as items
 use Rattle.packed_log.specs.declared.item.Read.{Read}
-use Rattle.packed_log.specs.declared.item.Skipped.{Skipped}
+use Rattle.packed_log.specs.declared.item.Skip.{Skip}
 use Rattle.packed_log.specs.Bits.{field}
-use Rattle.packed_log.specs.Rows.{row, row_of, step_of}
+use Rattle.packed_log.specs.Rows.{Row, row, row_of, step_of}
 use Rattle.packed_log.specs.Widths.{kinds, width, due}
 
 -- how many bits are left from position p on; 0 at the log's end and past it
@@ -38,8 +39,18 @@ abbrev pub refusal_at : (log : List ℕ) → (p : ℕ) → ℕ
 refusal_at log p = first (item_tests log p (kind_at log p))
 
 -- an item without its fields: its kind, 0 for the end and for a refusal; the refusal, 0 where there is none; and the position behind it
+pub record Skipped : Type 0 where
+  pub kind : ℕ
+  pub refusal : ℕ
+  pub next : ℕ
+
 abbrev pub skipped : (kind refusal next : ℕ) → Skipped
 skipped kind refusal next = record { kind = kind; refusal = refusal; next = next }
+
+-- the same, told from what skipping an item at position p gave; a refusal leaves the position
+abbrev pub skipped_by : Result Skip Refused → (p : ℕ) → Skipped
+skipped_by (Ok skip) p = skipped skip.kind 0 skip.next
+skipped_by (Err refusal) p = skipped 0 (number_of refusal) p
 
 -- what stands at position p, without fields. The end moves the position to the log's end, a step behind its fields; a refusal leaves it.
 unfoldable pub skipped_at : (log : List ℕ) → (p : ℕ) → Skipped

@@ -6,6 +6,7 @@ use Rattle.words.specs.Digits.{fill}
 use Rattle.words.specs.Refusals.{Refusal, ◌⇒◌, first}
 use Rattle.register.specs.declared.table.Register.{Register}
 use Rattle.register.specs.Opening.{closed, fresh}
+use Rattle.packed_log.specs.declared.opening.Front.{Front}
 use Rattle.packed_log.specs.declared.opening.Opening.{Opening}
 use Rattle.packed_log.specs.Bits.{field}
 use Rattle.packed_log.specs.Items.{left}
@@ -41,6 +42,14 @@ front_tests log n k =
     ∷ (not (between 1 256 k) ⇒ 2)
     ∷ []
 
+-- n and the schedule's length
+abbrev pub front_in : (log : List ℕ) → Front
+front_in log = record { n = count_in log; epochs = length_in log (count_in log) }
+
+-- what is refused up to the schedule's length
+abbrev pub front_refusal : (log : List ℕ) → ℕ
+front_refusal log = first (front_tests log (count_in log) (length_in log (count_in log)))
+
 -- 3 at a leader that is wholly there, 27 at the first that is not, 4 after the last
 abbrev pub leader_tests : (log : List ℕ) → (n k : ℕ) → List Refusal
 leader_tests log n k =
@@ -48,6 +57,10 @@ leader_tests log n k =
     ∷ (ltb (there_in log n k) k ⇒ 27)
     ∷ (too_many (untrusted n (trust_in log n)) n ⇒ 4)
     ∷ []
+
+-- the same, of k leaders of which these are there
+abbrev pub led_tests : (n trust : ℕ) → (schedule : List ℕ) → (k : ℕ) → List Refusal
+led_tests n trust schedule k = (stray n schedule ⇒ 3) ∷ (ltb (length schedule) k ⇒ 27) ∷ (too_many (untrusted n trust) n ⇒ 4) ∷ []
 
 abbrev pub opening_tests_in : (log : List ℕ) → (n k : ℕ) → List Refusal
 opening_tests_in log n k = front_tests log n k ++ leader_tests log n k

@@ -1,13 +1,11 @@
 -- A step as a row of the log: the number of its kind and the numbers of its fields, and back.
-use Rattle.std.specs.Prelude.{ℕ, ◌^◌, ◌<◌, List, [], ◌∷◌, eqb}
+use Rattle.std.specs.Prelude.{ℕ, ◌^◌, ◌<◌, List, [], ◌∷◌, eqb, get_or}
 use Rattle.words.specs.Tests.{choose}
-use Rattle.register.specs.declared.sorts.Message.{Message}
-use Rattle.register.specs.declared.sorts.Kind.{Kind}
-use Rattle.register.specs.declared.sorts.Kind.TheVariants.{Proposal, Vote as AVote}
+use Rattle.register.specs.Types.{Message, Kind, Proposal, Vote as AVote}
 use Rattle.register.specs.declared.step.Step.{Step}
 use Rattle.register.specs.declared.step.Step.TheVariants as steps
 use Rattle.register.specs.Books.{office, epoch, block}
-use Rattle.packed_log.specs.declared.row.Row.{Row}
+use Rattle.packed_log.specs.declared.row.Row.{Row as Coded}
 use Rattle.packed_log.specs.Widths.{width}
 
 -- a number as a message; the register has the like for the other sorts
@@ -22,9 +20,20 @@ kind_number AVote = 1
 unfoldable pub kind_numbered : ℕ → Kind
 kind_numbered k = choose (eqb k 0) Proposal AVote
 
--- a row
+-- a row: the number of a kind, and those of its fields
+pub record Row : Type 0 where
+  pub kind : ℕ
+  pub first : ℕ
+  pub second : ℕ
+  pub third : ℕ
+  pub fourth : ℕ
+
 abbrev pub row : (kind first second third fourth : ℕ) → Row
 row kind first second third fourth = record { kind = kind; first = first; second = second; third = third; fourth = fourth }
+
+-- the row that the code has as a kind and a list of fields
+abbrev pub row_by : Coded → Row
+row_by r = row r.kind (get_or r.fields 0 0) (get_or r.fields 1 0) (get_or r.fields 2 0) (get_or r.fields 3 0)
 
 -- the row of a step, with 0 in the columns that its kind has no field for
 unfoldable pub row_of : Step → Row

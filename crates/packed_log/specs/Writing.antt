@@ -1,14 +1,15 @@
 -- What the writer lays over a buffer, and what a call of it gives.
-use Rattle.std.specs.Prelude.{ℕ, zero, suc, ◌+◌, ◌*◌, ◌-◌, ◌%◌, ◌^◌, ◌≤◌, ◌<◌, min, Bool, false, List, [], ◌∷◌, ◌++◌, eqb, ltb, leb, length, get_or, replicate}
+use Rattle.std.specs.Prelude.{ℕ, zero, suc, Result, Ok, Err, ◌+◌, ◌*◌, ◌-◌, ◌%◌, ◌^◌, ◌≤◌, ◌<◌, min, Bool, false, List, [], ◌∷◌, ◌++◌, eqb, ltb, leb, length, get_or, replicate}
+use Rattle.refusals.specs.declared.Refusal.{Refusal}
+use Rattle.refusals.specs.Numbers.{number_of}
 use Rattle.quorum.specs.Opening.{opening_tests}
 use Rattle.words.specs.Tests.{choose, either}
 use Rattle.words.specs.Digits.{in_set}
 use Rattle.words.specs.Refusals.{◌⇒◌, first}
 use Rattle.register.specs.declared.step.Step.{Step}
-use Rattle.packed_log.specs.declared.row.Row.{Row}
 use Rattle.packed_log.specs.declared.writing.Wrote.{Wrote}
 use Rattle.packed_log.specs.Bits.{to_bits, put}
-use Rattle.packed_log.specs.Rows.{row_of}
+use Rattle.packed_log.specs.Rows.{Row, row_of}
 use Rattle.packed_log.specs.Widths.{width}
 
 -- a bit for each of n offices, office 0 first: whether it is in a set, as the trust word is one
@@ -55,6 +56,10 @@ wide r =
 abbrev pub room : (buffer : List ℕ) → (p : ℕ) → ℕ
 room buffer p = 8 * min (length buffer) (2 ^ 61 - 1) - p
 
+-- the refusal of so many bits from position p on: 31 where the buffer ends before they would
+abbrev pub no_room : (buffer : List ℕ) → (p size : ℕ) → ℕ
+no_room buffer p size = first ((ltb (room buffer p) size ⇒ 31) ∷ [])
+
 -- the buffer ends before these bits would from position p on
 abbrev pub short : (buffer : List ℕ) → (p : ℕ) → List Bool → Bool
 short buffer p t = ltb (room buffer p) (length t)
@@ -85,6 +90,11 @@ end_refused buffer p = first ((short buffer p (end_bits p) ⇒ 31) ∷ [])
 -- what a call that was to lay these bits at position p gives: 0 or the refusal, and the next position, which is the given one if refused
 unfoldable pub wrote : (refusal p : ℕ) → List Bool → Wrote
 wrote refusal p t = record { refusal = refusal; next = choose (eqb refusal 0) (p + length t) p }
+
+-- the same, told from the next position or the refusal
+abbrev pub wrote_by : Result ℕ Refusal → (p : ℕ) → Wrote
+wrote_by (Ok next) p = record { refusal = 0; next = next }
+wrote_by (Err refusal) p = record { refusal = number_of refusal; next = p }
 
 -- the buffer after that call: a refusal changes no bit
 unfoldable pub laid : (buffer : List ℕ) → (refusal p : ℕ) → List Bool → List ℕ

@@ -1,33 +1,14 @@
-// Fields of a log, most significant bit first: reading one, and writing one into a buffer.
-ghost use Rattle.std.specs.Prelude.{◌≡◌, ◌+◌, ◌*◌, ◌-◌, ◌/◌, ◌%◌, ◌^◌, ◌≤◌, ◌<◌, min, length, get_or, set};
+// Fields of a log, most significant bit first: reading one, and writing one into a buffer. What a call asks ties a width, a position and a value to each
+// other and to the bytes; a struct of these would be made at each call only to be taken apart in it.
+ghost use Rattle.std.specs.Prelude.{◌≡◌, ◌+◌, ◌*◌, ◌-◌, ◌/◌, ◌%◌, ◌^◌, ◌≤◌, ◌<◌, length, get_or, set};
 ghost use Rattle.packed_log.specs.Bits.{to_bits, field, put};
 ghost use Rattle.packed_log.specs.Windows.{window, over};
-
-// The lesser of two lengths.
-pub(crate) fn shorter(a: usize, b: usize) -> usize
-    ensures { result ≡ min a b }
-{
-    if a < b { a } else { b }
-}
-
-// How many of `total` bits are left from position `at` on.
-pub(crate) fn left_from(total: usize, at: usize) -> usize
-    ensures { result ≡ total - at }
-{
-    if total < at {
-        return 0;
-    }
-    total - at
-}
 
 // Byte i of the log; 0 past its end.
 fn byte_at(log: &[u8], i: usize) -> u32
     ensures { (result ≡ get_or log.now i 0) × (result < 256) }
 {
-    if i < log.len() {
-        return log[i] as u32;
-    }
-    0
+    log.get(i).copied().unwrap_or(0) as u32
 }
 
 // The three bytes from byte i on, as one number of 24 bits. A field is at most 16 bits wide, so no field leaves the three bytes from its
@@ -58,7 +39,7 @@ pub(crate) fn read_bits(log: &[u8], at: usize, width: usize) -> u16
     part_of(window_at(log, at / 8), 24 - at % 8 - width, width)
 }
 
-// Byte i of the buffer becomes b; past its end no byte does.
+// Byte i of the buffer becomes b; past its end no byte does. With `get_mut`, tried, the proof didn't close: an arm keeps no tie to the whole buffer.
 fn store(buf: &mut [u8], i: usize, b: u32)
     requires { b < 256 }
     ensures { buf.new ≡ set buf.old i b }

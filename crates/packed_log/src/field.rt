@@ -2,7 +2,7 @@
 ghost use Rattle.std.specs.Prelude.{◌≡◌};
 ghost use Rattle.packed_log.specs.Fields.{there, field_at, with_field};
 
-use crate::bits::{part_of, read_bits, shorter, write_bits};
+use crate::bits::{part_of, read_bits, write_bits};
 use crate::item::LONGEST;
 
 // So many bits are read or written at once.
@@ -32,7 +32,7 @@ pub fn read_field(bytes: &[u8], at: usize, width: usize) -> u32
     if !is_there(bytes, at, width) {
         return 0;
     }
-    let low = shorter(width, AT_ONCE);
+    let low = width.min(AT_ONCE);
     let high = width - low;
     ((read_bits(bytes, at, high) as u32) << low) + read_bits(bytes, at + high, low) as u32
 }
@@ -44,7 +44,7 @@ pub fn write_field(buf: &mut [u8], at: usize, width: usize, value: u32)
     if !is_there(buf, at, width) {
         return;
     }
-    let low = shorter(width, AT_ONCE);
+    let low = width.min(AT_ONCE);
     let high = width - low;
     write_bits(buf, at, high, part_of(value, low, high));
     write_bits(buf, at + high, low, part_of(value, 0, low));

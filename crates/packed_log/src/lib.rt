@@ -13,7 +13,7 @@ mod widths;
 pub mod writing;
 
 pub use field::{read_field, write_field};
-pub use item::{Item, Read, Skipped, read_item};
+pub use item::{Item, Read, Skip, read_item};
 pub use opening::{Opening, read_opening};
 pub use opening_writing::write_opening;
 pub use reader::Reader;

@@ -8,7 +8,7 @@ use crate::item::{Item, read_item};
 use crate::opening::{Opening, read_opening};
 
 // A log and a bit position in it.
-#[derive(Clone, Copy)]
+#[derive(Clone, Copy, PartialEq, Eq, Debug)]
 pub struct Reader<'a> {
     pub log: &'a [u8],
     pub at: usize,

@@ -1,11 +1,12 @@
-// The numbers of refusal of a packed log; the others are the register's.
+// The numbers of refusal of a packed log, under which makers know them, a rule of the project; the others are the register's.
+use refusals::Refusal;
 
-pub const CUT: u8 = 27;
+pub const CUT: u8 = Refusal::Cut as u8;
 
-pub const NO_SUCH_STEP: u8 = 28;
+pub const NO_SUCH_STEP: u8 = Refusal::NoSuchStep as u8;
 
-pub const ENDING: u8 = 29;
+pub const ENDING: u8 = Refusal::Ending as u8;
 
-pub const LONG_LOG: u8 = 30;
+pub const LONG_LOG: u8 = Refusal::LongLog as u8;
 
-pub const SHORT_BUFFER: u8 = 31;
+pub const SHORT_BUFFER: u8 = Refusal::ShortBuffer as u8;

@@ -1,4 +1,4 @@
-// The widths of the fields, by kind.
+// The widths of the fields, by kind, which is the log's number: see `Row`.
 ghost use Rattle.std.specs.Prelude.{◌≡◌, ◌+◌, ◌*◌, ◌≤◌, ◌<◌};
 ghost use Rattle.packed_log.specs.Widths.{kinds, width, due};
 
@@ -8,8 +8,11 @@ pub(crate) const KIND_WIDTH: usize = 4;
 // So many kinds there are, the end being the first.
 pub(crate) const KINDS: usize = 9;
 
+// So many fields a kind has at most.
+pub(crate) const COLUMNS: usize = 4;
+
 // What the fields of each kind take: the bits of all of them, and below these the widths of the four columns, a byte for each, the first column
-// highest; 00 where there is no field.
+// highest; 00 where there is no field. They are one number, since a table of bytes for each kind, tried, was built on the stack at each look: 40 ns a step.
 const WIDTHS: [u64; KINDS] = [
     // end
     0x00_00_00_00_00,
@@ -31,7 +34,9 @@ const WIDTHS: [u64; KINDS] = [
     0x00_00_00_00_00,
 ];
 
-// The entry of a kind. It goes by cases, so that each entry is a constant for the compiler.
+// The entry of a kind. It goes by cases, so that each entry is a constant for the compiler: with `WIDTHS[kind as usize]`, tried, an advance takes 7.4 ns
+// to read in place of 3.6, since the position of the next item waits for the look.
+#[tactic(auto, unfolding(crate::specs::Widths::width, crate::specs::Widths::fields))]
 fn entry_of(kind: u8) -> u64
     requires { kind < kinds }
     ensures { result ≡

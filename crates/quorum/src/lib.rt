@@ -2,22 +2,17 @@
 #![tactic(auto)]
 
 ghost use Rattle.std.specs.Prelude.{◌≡◌};
+ghost use Rattle.refusals.specs.Numbers.{outcome};
 ghost use Rattle.words.specs.Sums.{tally};
 ghost use Rattle.words.specs.Digits.{in_set};
 ghost use Rattle.quorum.specs.Enough.{count_of};
 ghost use Rattle.quorum.specs.Opening.{untrusted, stray, opening_refusal};
 
-// The numbers of refusal of an opening.
-pub const COUNT: u8 = 1;
+use refusals::Refusal;
 
-pub const SCHEDULE: u8 = 2;
-
-pub const STRAY_LEADER: u8 = 3;
-
-pub const THIRD: u8 = 4;
-
-// The count of a block's signers: whether they are enough, and how many they are in either case.
-#[derive(Clone, Copy)]
+// The count of a block's signers: whether they are enough, and how many they are in either case. `Notarised` of `register` says the same in makers'
+// words: both are public, with fields of other names, and the specs speak of both (`count_of`, `notarised_test`).
+#[derive(Clone, Copy, PartialEq, Eq, Debug)]
 pub struct SignerCount {
     pub enough: bool,
     pub signers: u8,
@@ -41,34 +36,34 @@ fn count_untrusted(n: u8, trust: u32) -> u32
     n as u32 - words::members(trust, n)
 }
 
-// Some leader of the schedule is no office.
+// Some leader of the schedule is no office. The rule goes by the numbers of the epochs, and so do the laws of such loops; `iter().any` would need laws of lists
+// beside them.
 fn has_stray(n: u8, schedule: &[u8]) -> bool
     ensures { result ≡ stray n schedule.now }
 {
-    let mut found = false;
-    let mut i = 0;
-    while i < schedule.len() {
-        found = found | (schedule[i] >= n);
-        i += 1;
+    for leader in schedule {
+        if *leader >= n {
+            return true;
+        }
     }
-    found
+    false
 }
 
-// The number of the refusal that the opening meets first, 0 where it meets none.
-pub fn opening_refusal(n: u8, trust: u32, schedule: &[u8]) -> u8
-    ensures { result ≡ opening_refusal n trust schedule.now }
+// What the opening is refused with.
+pub fn check_opening(n: u8, trust: u32, schedule: &[u8]) -> Result<(), Refusal>
+    ensures { outcome result ≡ opening_refusal n trust schedule.now }
 {
     if !words::between(1, 32, n as usize) {
-        return COUNT;
+        return Err(Refusal::Count);
     }
     if !words::between(1, 256, schedule.len()) {
-        return SCHEDULE;
+        return Err(Refusal::Schedule);
     }
     if has_stray(n, schedule) {
-        return STRAY_LEADER;
+        return Err(Refusal::StrayLeader);
     }
     if 3 * count_untrusted(n, trust) >= n as u32 {
-        return THIRD;
+        return Err(Refusal::Third);
     }
-    0
+    Ok(())
 }

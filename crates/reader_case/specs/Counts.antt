@@ -1,25 +1,19 @@
--- Counting the steps of a log, item by item.
-use Rattle.std.specs.Prelude.{ℕ, ◌+◌, Bool, true, false, List, eqb, length}
+-- Counting the steps of a log.
+use Rattle.std.specs.Prelude.{ℕ, zero, suc, Option, Some, None, List, eqb, length}
 use Rattle.words.specs.Tests.{choose}
-use Rattle.packed_log.specs.declared.item.Item.{Item}
 use Rattle.packed_log.specs.Openings.{opening_in}
 use Rattle.replay.specs.Bodies.{body_of, fault_of}
 use Rattle.reader_case.specs.declared.Count.{Count}
 
--- so many steps, a refusal or 0, and whether there is more to read
-abbrev pub count : (steps refusal : ℕ) → (more : Bool) → Count
-count steps refusal more = record { steps = steps; refusal = refusal; more = more }
+-- so many steps, and a refusal or none
+abbrev pub count : (steps : ℕ) → (refusal : Option ℕ) → Count
+count steps refusal = record { steps = steps; refusal = refusal }
 
--- behind an opening: a refused one has nothing behind it
-abbrev pub opened : (refusal : ℕ) → Count
-opened refusal = count 0 refusal (eqb refusal 0)
+-- the refusal of that number; 0 is none
+unfoldable pub refusal_of : (number : ℕ) → Option ℕ
+refusal_of zero = None
+refusal_of (suc k) = Some (suc k)
 
--- a count with an item that has been read
-unfoldable pub counted : Count → Item → Count
-counted c (Item.Step s) = count (c.steps + 1) 0 true
-counted c Item.End = count c.steps 0 false
-counted c (Item.Refused number) = count c.steps number false
-
--- the count of a whole log: the steps behind its opening, none where that is refused, and the number that the log is refused with
+-- the count of a whole log: the steps behind its opening, none where that is refused, and the refusal that the log is refused with, if any
 unfoldable pub count_of : (log : List ℕ) → Count
-count_of log = count (choose (eqb (opening_in log).refusal 0) (length (body_of log).steps) 0) (fault_of log) false
+count_of log = count (choose (eqb (opening_in log).refusal 0) (length (body_of log).steps) 0) (refusal_of (fault_of log))

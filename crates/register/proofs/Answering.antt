@@ -1,29 +1,24 @@
 -- What the calls of a step's tests answer, said of a book, and what the refusal found makes of the change.
-use Prim.Native.Nat.{ℕ, ◌+◌, ◌≤◌, ◌<◌, min}
-use mathlib.Core.Path.{◌≡◌, refl, sym, ap, ◌∙◌}
-use mathlib.Core.List.{List, []}
+use Prim.Native.Nat.{ℕ, ◌≤◌, ◌<◌, min}
+use mathlib.Core.Path.{◌≡◌, sym, ap, ◌∙◌}
+use mathlib.Core.List.{List}
 use mathlib.Core.Bool.{Bool, true, false, not, ◌||◌}
 use native.Mathlib.Omega.{arith}
 use borrow.Author.Tests.{le-leb, lt-leb, lt-ltb, ltb-true, eq-eqb, ne_eqb}
 use lib.Dec.{ltb, leb}
-use lib.ListN.{length, get_or-replicate}
 use Rattle.words.specs.Tests.{choose, both, either}
 use Rattle.words.specs.Refusals.{Refusal, first, until, since}
-use Rattle.words.proofs.Tests.{or_either, both_make, both_fails, any_same}
+use Rattle.words.proofs.Tests.{or_either, both_make, both_fails}
 use Rattle.words.proofs.Refusals.{positive, first_early, first_late}
 use Rattle.words.proofs.Turns.{turns}
-use Rattle.tables.specs.Blocks.{parent_in, named_in}
-use Rattle.tables.specs.Chains.{chain_by}
+use Rattle.tables.specs.Blocks.{named_in}
 use Rattle.tables.specs.Searches.{signed_in, view_in, certified_above, longest_in}
 use Rattle.tables.proofs.Scans.{named_most}
-use Rattle.register.specs.Types.{Step, OfficeState, Book, Scalars, Change}
-use Rattle.register.specs.Books.{block, scalars_of}
+use Rattle.register.specs.Types.{Step, Book, Change}
 use Rattle.register.specs.Tables.{trusted}
-use Rattle.register.specs.Views.{stage, signed, notarised}
-use Rattle.register.specs.Chains.{chain, chain_notarised_by, chain_notarised, longer, longest}
-use Rattle.register.specs.Refusals.{finalises, behind}
+use Rattle.register.specs.Views.{signed}
+use Rattle.register.specs.Chains.{chain_notarised, longest}
 use Rattle.register.specs.Steps.{rule_of}
-use Rattle.register.specs.Lent.{lent_book, held_book, blocks, messages}
 use Rattle.register.specs.Changes.{refusing, accepting, entries_of, change_by}
 use Rattle.register.proofs.Searching.{signed_in_lem, longest_by_lem, notarised_above}
 
@@ -47,29 +42,6 @@ pub found_notarised : (r : Book) (q base b : ℕ) (x : Bool) → r.count ≤ 102
     (min r.n 32) b base
     → x ≡ chain_notarised r q b
 found_notarised r q base b x few offices k l t known e = e ∙ sym (notarised_above r few offices q t base b k l known)
-
--- the tests of a finalise step, as they are found by the columns that are lent and the acting office's state
-module _ (s : Scalars) (parents epochs signers about places : List ℕ) (state : OfficeState) (q b : ℕ) where
-  abbrev lent : Book
-  lent = lent_book s [] (blocks parents epochs []) (messages [] signers about places)
-
-  abbrev held : Book
-  held = held_book s [] (blocks parents epochs []) (messages [] signers about places) state
-
-  -- 21 asks for no office's state
-  pub found_final : (x u : Bool) → x ≡ finalises lent q b → not x ≡ u → not (finalises held q b) ≡ u
-  unfolding finalises chain_notarised_by notarised signed stage chain
-  found_final x u e f = ap not (sym e) ∙ f
-
-  -- 32 asks for the final block of the office, which the table has
-  pub found_behind : (c : ℕ) (x u : Bool) → q < 32 → c ≡ parent_in parents s.last.0 b
-      → x
-      ≡ ltb (length (chain_by (parent_in parents s.last.0) c))
-      (length (chain_by (parent_in parents s.last.0) state.finalised.0))
-      → x ≡ u → behind held q b ≡ u
-  unfolding chain
-  found_behind c x u there parent e f =
-      rw (get_or-replicate 32 q state (record { finalised = block 0 }) there, ← parent) (sym e ∙ f)
 
 -- a number that a call gave is, or is not, at least the one that the test asks about
 pub found_least : (a r b : ℕ) → r ≡ b → a ≤ r → leb a b ≡ true
@@ -95,7 +67,7 @@ module _ (parents epochs payloads : List ℕ) (last p e w b : ℕ) where
   pub found_room : b ≡ block-named → b ≤ 255 → both (ltb last block-named) (leb 255 last) ≡ false
   found_room i h = both_fails _ _ (λ needed. lt-leb 255 last (omega (arith, ltb-true last block-named needed)))
 
-pub ruleset answers = (turns, found_least, found_less, found_either, found_full, found_room, found_final)
+pub ruleset answers = (turns, found_least, found_less, found_either, found_full, found_room)
 
 -- a refusal that the tests before the one numbered k gave is the list's
 pub early : (k : ℕ) (rs : List Refusal) (x : ℕ) → x ≡ first (until k rs) → (x ≡ 0 → ⊥) → x ≡ first rs
@@ -105,26 +77,6 @@ early k rs x e some = e ∙ sym (first_early k rs (λ none. some (e ∙ none)))
 pub late : (k : ℕ) (rs : List Refusal) (x y : ℕ) → positive rs ≡ true → x ≡ first (until k rs) → x ≡ 0 → y ≡ first (since k rs)
     → y ≡ first rs
 late k rs x y p e none f = f ∙ sym (first_late k rs p (sym e ∙ none))
-
--- a book in what a search for longest chains reads
-abbrev pub searched : Book → Book
-searched r =
-    lent_book (scalars_of r) [] (blocks r.parents r.epochs []) (messages [] r.signers r.about r.places)
-
--- it has the same longest chains
-module _ (r : Book) (q : ℕ) where
-  chain_searched : (b : ℕ) → chain_notarised r q b ≡ chain_notarised (searched r) q b
-  unfolding chain_notarised_by chain notarised signed stage
-  chain_searched b = refl
-
-  longer_searched : (b x : ℕ) → longer r q b x ≡ longer (searched r) q b x
-  unfolding chain
-  longer_searched b x = rw (chain_searched x)
-
-  pub longest_searched : (b : ℕ) → longest r q b ≡ longest (searched r) q b
-  unfolding longest
-  longest_searched b =
-      rw (chain_searched b, any_same (longer r q b) (longer (searched r) q b) (r.last.0 + 1) (λ x k. longer_searched b x))
 
 module _ (c : Change) (r : Book) (step : Step) (k : ℕ) (found : k ≡ first (rule_of r step).tests) where
   -- a step is refused with the number that was found

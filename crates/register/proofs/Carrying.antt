@@ -1,34 +1,25 @@
 -- The change of a step carries the step out: what is written and answered is what the rule gives.
 use Prim.Native.Nat.{ℕ, ◌<◌}
-use mathlib.Core.Path.{◌≡◌, refl, ap, ◌∙◌, subst⁻¹}
+use mathlib.Core.Path.{◌≡◌, refl, ap, ◌∙◌}
 use mathlib.Core.Bool.{Bool, true, false}
 use native.Mathlib.Omega.{arith}
 use borrow.Author.Tests.{eqb-true}
 use lib.Dec.{eqb, leb}
 use Rattle.words.specs.Tests.{choose}
 use Rattle.words.specs.Refusals.{first}
-use Rattle.register.specs.Types.{Step, Header, OfficeState, Book, Scalars, Change}
-use Rattle.register.specs.Books.{block, scalars_of}
+use Rattle.register.specs.Types.{Step, Header, OfficeState, Book, Change}
+use Rattle.register.specs.Books.{block}
 use Rattle.register.specs.Tables.{state_of, parent_of, named, about_of}
 use Rattle.register.specs.Refusals.{blocks_full}
 use Rattle.register.specs.Effects.{with_state, finalising}
 use Rattle.register.specs.Steps.{Outcome, refusal, judged, rule_of}
-use Rattle.register.specs.Lent.{Counted, read_book}
+use Rattle.register.specs.Counted.{CountedBook}
 use Rattle.register.specs.Changes.{unchanged_of, refusing, accepting, naming, holding, entries_of, change_by, change_of}
 use Rattle.register.specs.Settled.{actor_of}
 use Rattle.register.proofs.Accepted.{Accepted, accepted, trusted_below}
 use Rattle.register.proofs.Naming.{named_room}
-use Rattle.register.proofs.Writing.{written, same, writes_nothing, writes_moved, writes_state, writes_epoch, writes_sent, writes_vote, writes_named, writes_propose}
-
--- every entry of a change is within its table
-pub record InBounds (b m p q : ℕ) : Type 0 where
-  pub block : b < 256
-  pub message : m < 1024
-  pub place : p < 1024
-  pub office : q < 32
-
-abbrev pub InTables : Change → Type 0
-InTables c = InBounds c.block.at c.message.at c.place.at c.office.at
+use Rattle.register.specs.Written.{InBounds, InTables, written}
+use Rattle.register.proofs.Writing.{same, writes_nothing, writes_moved, writes_state, writes_epoch, writes_sent, writes_vote, writes_named, writes_propose}
 
 -- what a change gives once it is written
 abbrev pub outcome : Book → Change → Outcome
@@ -65,7 +56,7 @@ module _ (r : Book) (at : ℕ) (within : at < 32) where
   takes step c none enters =
       record { answer = rw none (λ i. record { book = enters.0 i; refusal = 0; value = (rule_of r step).value }); within = enters.1 }
 
-  module _ (c : Counted (scalars_of r)) where
+  module _ (c : CountedBook r) where
     -- the entry of a block that is named
     named_entry : (new : Header) → blocks_full r new ≡ false → (naming (same r at) (named r new) new).block.at < 256
     unfolding naming unchanged_of
@@ -123,16 +114,9 @@ module _ (r : Book) (at : ℕ) (within : at < 32) where
     carries_by step k false own is some = refuses true step k is some
 
   -- a step of any book
-  carries : (fits : Bool) (step : Step)
-      → (fits ≡ true → Counted (scalars_of r))
+  pub carries : (fits : Bool) (step : Step)
+      → (fits ≡ true → CountedBook r)
       → ((actor_of step).0 < 32 → at ≡ (actor_of step).0) → CarriesOut fits r step (change_of fits r at step)
   unfolding change_of change_by choose
   carries true step counts own = carries_by (counts refl) step _ _ own refl refl
   carries false step counts own = refuses false step 5 (unfold refusal first choose in refl) refl
-
-  -- the same of the change by single numbers that were read from the book, and by its columns
-  pub carries_read : (fits : Bool) (step : Step) (x : Change) (s : Scalars) → s ≡ scalars_of r → x ≡ change_of fits (read_book s r) at step
-      → (fits ≡ true → Counted (scalars_of r))
-      → ((actor_of step).0 < 32 → at ≡ (actor_of step).0) → CarriesOut fits r step x
-  carries_read fits step x s read is counts own =
-      subst⁻¹ (CarriesOut fits r step) (rw read at is) (carries fits step counts own)

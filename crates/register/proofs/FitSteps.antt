@@ -44,7 +44,7 @@ module _ {r : Book} (z : Ranges r) where
       let c = z.counts in
       let s = z.sizes in
       record {
-        counts = recounted c refl refl first now c.blocks c.messages;
+        counts = recounted _ _ _ c first now c.blocks c.messages;
         fixed = z.fixed;
         blocks = z.blocks;
         messages = z.messages;
@@ -86,7 +86,7 @@ module _ {r : Book} (z : Ranges r) where
       let c = z.counts in
       let s = z.sizes in
       record {
-        counts = recounted c refl refl c.first c.current (omega arith) c.messages;
+        counts = recounted _ _ _ c c.first c.current (omega arith) c.messages;
         fixed = z.fixed;
         blocks = λ k l. (
           stored (λ (x : ℕ). x < k + 1) r.parents b new.parent.0 (k + 1) 0 (λ h. omega arith) (λ h. omega arith)
@@ -114,7 +114,7 @@ module _ {r : Book} (z : Ranges r) where
       let c = z.counts in
       let s = z.sizes in
       record {
-        counts = recounted c refl refl c.first c.current c.blocks (omega arith);
+        counts = recounted _ _ _ c c.first c.current c.blocks (omega arith);
         fixed = z.fixed;
         blocks = z.blocks;
         messages = λ x l. (

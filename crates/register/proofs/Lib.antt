@@ -1,6 +1,5 @@
 -- The laws of the definitions in specs/, by topic.
 pub mod Typing
-pub mod Copying
 pub mod Tables
 pub mod Chains
 pub mod Finalising
@@ -23,6 +22,5 @@ pub mod Longest
 pub mod Answering
 pub mod Writing
 pub mod Carrying
-pub mod Lending
 pub mod Running
 pub mod Makers

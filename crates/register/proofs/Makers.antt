@@ -14,8 +14,7 @@ use Rattle.register.specs.Opening.{blank, closed, opening}
 use Rattle.register.specs.Effects.{with_block, with_sent, with_moved, with_acted, with_state, with_next_epoch}
 use Rattle.register.specs.Steps.{refusal, judged, rule_of, book_rule, step_rule}
 use Rattle.register.specs.Runs.{after_steps, opened, moment}
-use Rattle.register.specs.Promises.{RunsAreFit, RefusedOpeningCloses, ClosedGetsFive, RefusedStepStays}
-use Rattle.register.specs.Promises.{council_of, StepsKeepCouncil}
+use Rattle.register.specs.Promises.{RunsAreFit, RefusedOpeningCloses, ClosedGetsFive, RefusedStepStays, council_of, StepsKeepCouncil}
 use Rattle.register.proofs.Typing.{book_register, register_book, step_book}
 use Rattle.register.proofs.Judging.{judged_has}
 use Rattle.register.proofs.Naming.{named_keeps}

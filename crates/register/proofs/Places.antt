@@ -1,19 +1,42 @@
 -- What the stage of a message for an office says.
-use Prim.Native.Nat.{ℕ, suc, ◌<◌}
+use Prim.Native.Nat.{ℕ, zero, suc, ◌<◌}
 use mathlib.Core.Path.{◌≡◌, refl, ap, ◌∙◌}
 use mathlib.Core.Bool.{Bool, true, false}
 use native.Mathlib.Omega.{arith}
 use native.Mathlib.Decide.{dec_lt}
-use borrow.Author.Tests.{ltb-true, lt-ltb}
-use lib.Dec.{ltb}
+use borrow.Author.Tests.{ltb-true, lt-ltb, ne_eqb}
+use lib.Dec.{eqb, ltb}
 use lib.ListN.{get_or, length, get_or-eq_default}
 use Rattle.words.specs.Tests.{choose, both}
 use Rattle.words.specs.Digits.{digit}
 use Rattle.words.proofs.Tests.{both_left, both_right, both_make}
 use Rattle.words.proofs.Digits.{digit_zero}
-use Rattle.register.specs.Types.{Book}
+use Rattle.tables.specs.Messages.{transit, inbox}
+use Rattle.tables.specs.contracts.sorts.StagePartialEq.TheImpl.{ghosts}
+use Rattle.register.specs.Types.{Stage, Book}
 use Rattle.register.specs.Tables.{trusted}
-use Rattle.register.specs.Views.{stage}
+use Rattle.register.specs.Views.{stage, stage_numbered}
+
+-- a stage is transit, or the inbox, where its number is
+pub is_transit : (k : ℕ) → eqb k transit ≡ ghosts.eq (stage_numbered k) Stage.Transit
+unfolding stage_numbered choose
+is_transit zero = refl
+is_transit (suc zero) = refl
+is_transit (suc (suc zero)) = refl
+is_transit (suc (suc (suc zero))) = refl
+is_transit (suc (suc (suc (suc k)))) =
+    let n : ℕ = suc (suc (suc (suc k))) in
+    rw (ne_eqb n 1 (omega arith), ne_eqb n 2 (omega arith), ne_eqb n 3 (omega arith))
+
+pub is_inbox : (k : ℕ) → eqb k inbox ≡ ghosts.eq (stage_numbered k) Stage.Inbox
+unfolding stage_numbered choose
+is_inbox zero = refl
+is_inbox (suc zero) = refl
+is_inbox (suc (suc zero)) = refl
+is_inbox (suc (suc (suc zero))) = refl
+is_inbox (suc (suc (suc (suc k)))) =
+    let n : ℕ = suc (suc (suc (suc k))) in
+    rw (ne_eqb n 1 (omega arith), ne_eqb n 2 (omega arith), ne_eqb n 3 (omega arith))
 
 -- message m has been sent, and stands at stage k for the trusted office q
 pub record Placed (r : Book) (q m k : ℕ) : Type 0 where

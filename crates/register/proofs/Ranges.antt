@@ -7,12 +7,11 @@ use borrow.Author.Tests.{ltb-true, leb-true, lt-ltb, le-leb}
 use lib.ListN.{get_or}
 use Rattle.words.proofs.Tests.{both_left, both_right, both_make, implied, implies, all_at, all_make, between_true, between_make}
 use Rattle.words.proofs.Clearing.{holds, hold}
-use Rattle.register.specs.Types.{Book, Scalars}
-use Rattle.register.specs.Books.{scalars_of}
+use Rattle.register.specs.Types.{Book}
 use Rattle.register.specs.Tables.{trusted, final_of}
 use Rattle.register.specs.Fitness.{counts_fit, block_fits, message_fits, state_fits, fit}
 use Rattle.register.specs.Promises.{Sizes}
-use Rattle.register.specs.Lent.{Counted}
+use Rattle.register.specs.Counted.{InRanges, CountedBook}
 
 -- the ranges of what no step changes: the same type before and after a step
 abbrev Fixed : Book → Type 0
@@ -25,7 +24,7 @@ MessageRange r m =
 
 -- every number of the book is in its range, and the tables have their sizes
 pub record Ranges (r : Book) : Type 0 where
-  pub counts : Counted (scalars_of r)
+  pub counts : CountedBook r
   pub fixed : Fixed r
   pub blocks : (k : ℕ) → k < r.last.0 → (get_or r.parents (k + 1) 0 < k + 1) × (get_or r.epochs (k + 1) 0 ≤ 511)
   pub messages : (m : ℕ) → m < r.count → MessageRange r m
@@ -33,7 +32,7 @@ pub record Ranges (r : Book) : Type 0 where
   pub sizes : Sizes r
 
 -- the single numbers are in their ranges where the tests of them hold
-pub counted : (s : Scalars) → counts_fit s ≡ true → Counted s
+pub counted : (s : Book) → counts_fit s ≡ true → CountedBook s
 unfolding counts_fit
 counted s h =
     let all = holds _ h in
@@ -50,7 +49,7 @@ counted s h =
     }
 
 -- so they are in a fit book
-pub fit_counts : (r : Book) → fit r ≡ true → Counted (scalars_of r)
+pub fit_counts : (r : Book) → fit r ≡ true → CountedBook r
 unfolding fit
 fit_counts r h = counted _ (holds _ h).0
 
@@ -62,15 +61,15 @@ fit_messages r h m l =
     (ltb-true _ _ (both_left _ _ fits), between_true _ _ _ (both_right _ _ fits))
 
 -- single numbers stay in their ranges with another epoch and other counts that are
-pub recounted : {s t : Scalars} → Counted s → t.n ≡ s.n → t.scheduled ≡ s.scheduled → 1 ≤ t.epoch.0 → t.epoch.0 ≤ s.scheduled
-    → t.last.0 ≤ 255 → t.count ≤ 1024 → Counted t
-recounted c n scheduled first current blocks messages =
+pub recounted : {n scheduled epoch last count : ℕ} (e l m : ℕ) → InRanges n scheduled epoch last count → 1 ≤ e → e ≤ scheduled
+    → l ≤ 255 → m ≤ 1024 → InRanges n scheduled e l m
+recounted e l m c first current blocks messages =
     record {
-      some = omega (arith, c.some);
-      offices = omega (arith, c.offices);
-      schedule = omega (arith, c.schedule);
+      some = c.some;
+      offices = c.offices;
+      schedule = c.schedule;
       first = first;
-      current = omega arith;
+      current = current;
       blocks = blocks;
       messages = messages;
     }

@@ -12,17 +12,17 @@ use Rattle.words.specs.Tests.{choose}
 use Rattle.words.specs.Digits.{with_member}
 use Rattle.register.specs.Types.{Step, Register, Stepped, Ran, Book, Change}
 use Rattle.register.specs.Limits.{batch}
-use Rattle.register.specs.Books.{register_of, scalars_of}
+use Rattle.register.specs.Books.{register_of}
 use Rattle.register.specs.Fitness.{fit}
 use Rattle.register.specs.Steps.{Outcome, judged, rule_of, book_rule, step_rule}
 use Rattle.register.specs.Runs.{after_steps, answers, padded, ran}
 use Rattle.register.specs.Promises.{Sizes}
-use Rattle.register.specs.Lent.{Counted}
+use Rattle.register.specs.Counted.{CountedBook}
 use Rattle.register.specs.Settled.{AllSettled, actor_of}
 use Rattle.register.proofs.Typing.{book_register}
 use Rattle.register.proofs.Ranges.{ranges}
 use Rattle.register.proofs.FitSteps.{fit_step}
-use Rattle.register.proofs.Writing.{written}
+use Rattle.register.specs.Written.{written}
 use Rattle.register.proofs.Carrying.{outcome, CarriesOut}
 use Rattle.register.proofs.Settling.{none_settled, settled_next}
 
@@ -147,7 +147,7 @@ module _ {r : Register} {steps : List Step} {i : ℕ} {book : Book} {ks vs : Lis
 -- the single numbers of a fit book are in their ranges
 pub held_counts : {r : Register} {steps : List Step} {i : ℕ} {book : Book} {ks vs : List ℕ} {fits : Bool} {settled : ℕ}
     → Held r steps i book ks vs fits settled → fits ≡ true
-    → Counted (scalars_of book)
+    → CountedBook book
 held_counts held fit = (ranges held.sizes (held.fit ∙ fit)).counts
 
 -- before the first step

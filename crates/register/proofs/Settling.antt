@@ -139,14 +139,14 @@ settled_base_lem r set q at all fits own =
 
 -- what the code finds of a step's actor
 pub acts : (r : Book) (step : Step) (set : ℕ) (office : Office) (actor : Actor) → office ≡ actor_of step
-    → actor.at ≡ choose (ltb office.0 32) office.0 0 → actor.at < 32 → actor.state ≡ state_of r actor.at
-    → actor.base ≡ settled_base actor.state set office.0 → AllSettled r set → set < 2 ^ 32 → Acts r step actor
+    → actor.at ≡ choose (ltb office.0 32) office.0 0 → actor.at < 32
+    → actor.base ≡ settled_base (state_of r actor.at) set office.0 → AllSettled r set → set < 2 ^ 32 → Acts r step actor
 unfolding choose
-acts r step set office actor who place within state base all fits =
+acts r step set office actor who place within base all fits =
     let own : (actor_of step).0 < 32 → actor.at ≡ (actor_of step).0 =
     λ l. rw (who, lt-ltb (actor_of step).0 32 l) at place in
     record {
       within = within;
       own = own;
-      base = rw (base, state, who) (settled_base_lem r set (actor_of step).0 actor.at all fits own);
+      base = rw (base, who) (settled_base_lem r set (actor_of step).0 actor.at all fits own);
     }

@@ -6,8 +6,8 @@ use native.Mathlib.Omega.{arith}
 use lib.ListN.{get_or}
 use lib.Seq.{get_or-set_same, get_or-set_other}
 use Rattle.register.specs.Types.{Header, Content, Book}
-use Rattle.register.specs.Books.{office, epoch, block}
-use Rattle.register.specs.Tables.{header_of, content_of, signer_of, about_of, kind_of, is_vote}
+use Rattle.register.specs.Books.{office, epoch, block, is_vote, kind_of}
+use Rattle.register.specs.Tables.{header_of, content_of, signer_of, about_of}
 use Rattle.register.specs.Promises.{Sizes}
 use Rattle.register.specs.Effects.{with_block, with_sent}
 

@@ -14,8 +14,10 @@ use Rattle.tables.specs.Messages.{absent}
 use Rattle.tables.specs.Blocks.{parent_in, epoch_in}
 use Rattle.register.specs.Types.{Block, Kind, Register}
 use Rattle.register.specs.Books.{office, epoch, block, office_number, epoch_number, block_number, book_of}
-use Rattle.register.specs.Tables.{trusted, scheduled_in, leader_for, made, header_for, kind_of, sent_in, content_for}
+use Rattle.register.specs.Tables.{trusted, scheduled_in, leader_for, made, parent_of, header_for, sent_in, content_for}
 use Rattle.register.specs.Views.{stage}
+use Rattle.tables.proofs.Columns.{vote_entry}
+use Rattle.register.proofs.Typing.{kind_vote}
 
 module _ (r : Register) (e : ℕ) where
   -- an epoch of the schedule is from 1 to 256
@@ -34,12 +36,11 @@ module _ (r : Register) (e : ℕ) where
 
 module _ (r : Register) (b : ℕ) where
   -- a block that was made has its entries; one that names no smaller parent counts as on genesis
-  pub header_found : (parent : Block) → made (book_of r) b ≡ true
-      → parent ≡ block (choose (ltb (get_or r.parents b (block 0)).0 b) (get_or r.parents b (block 0)).0 0)
-      → record { parent = parent; epoch = get_or r.epochs b (epoch 0); payload = get_or r.payloads b 0 } ≡ header_for (book_of r) b
+  pub header_found : (parent : Block) → made (book_of r) b ≡ true → parent.0 ≡ parent_of (book_of r) b
+      → record { parent = parent; epoch = get_or r.blocks.epochs b (epoch 0); payload = get_or r.blocks.payloads b 0 } ≡ header_for (book_of r) b
   unfolding header_for parent_in epoch_in choose both book_of
   header_found parent found named =
-      rw (named, found, get_or-map block_number r.parents b (block 0), get_or-map epoch_number r.epochs b (epoch 0))
+      rw (ap block named, found, get_or-map epoch_number r.blocks.epochs b (epoch 0))
 
   -- genesis, and a number above the last block's, has zeros
   pub header_none : made (book_of r) b ≡ false → record { parent = block 0; epoch = epoch 0; payload = 0 } ≡ header_for (book_of r) b
@@ -54,27 +55,32 @@ neither false = refl
 
 module _ (r : Register) (m : ℕ) where
   -- a message that was sent is one of 1,024
-  pub in_table : sent_in r.count m ≡ true → m < 1024
+  pub in_table : sent_in r.messages.count m ≡ true → m < 1024
   in_table found = ltb-true m 1024 (both_right _ _ found)
 
   -- it says what its entries say
-  pub content_found : (kind : Kind) → sent_in r.count m ≡ true → kind ≡ kind_of (get_or r.votes m false)
-      → record { kind = kind; signer = get_or r.signers m (office 0); about = get_or r.about m (block 0) } ≡ content_for (book_of r) m
+  pub content_found : sent_in r.messages.count m ≡ true
+      → record {
+        kind = get_or r.messages.kinds m Kind.Proposal;
+        signer = get_or r.messages.signers m (office 0);
+        about = get_or r.messages.about m (block 0);
+      }
+      ≡ content_for (book_of r) m
   unfolding content_for choose book_of
-  content_found kind found told =
-      rw (told, found, get_or-map office_number r.signers m (office 0), get_or-map block_number r.about m (block 0))
+  content_found found =
+      rw (found, vote_entry, kind_vote, get_or-map office_number r.messages.signers m (office 0), get_or-map block_number r.messages.about m (block 0))
 
   -- any other number has zeros
-  pub content_none : sent_in r.count m ≡ false
+  pub content_none : sent_in r.messages.count m ≡ false
       → record { kind = Kind.Proposal; signer = office 0; about = block 0 } ≡ content_for (book_of r) m
   unfolding content_for choose book_of
   content_none none = rw none
 
   -- for a trusted office a message that was sent is where its word says
-  pub stage_found : (q : ℕ) → trusted (book_of r) q ≡ true → sent_in r.count m ≡ true
-      → stage (book_of r) q m ≡ digit 4 (get_or r.places m 0) q
+  pub stage_found : (q : ℕ) → trusted (book_of r) q ≡ true → sent_in r.messages.count m ≡ true
+      → stage (book_of r) q m ≡ digit 4 (get_or r.messages.places m 0) q
   unfolding stage choose both book_of
-  stage_found q t found = rw (t, both_left (ltb m r.count) (ltb m 1024) found)
+  stage_found q t found = rw (t, both_left (ltb m r.messages.count) (ltb m 1024) found)
 
   -- for any other it is absent
   pub stage_untrusted : (q : ℕ) → trusted (book_of r) q ≡ false → stage (book_of r) q m ≡ absent
@@ -82,13 +88,13 @@ module _ (r : Register) (m : ℕ) where
   stage_untrusted q t = rw t
 
   -- and so is, for every office, a number that was not sent: past the table all places are 0
-  absent_past : (q : ℕ) → length r.places ≡ 1024 → (x : Bool) → ltb m r.count ≡ x → both x (ltb m 1024) ≡ false
+  absent_past : (q : ℕ) → length r.messages.places ≡ 1024 → (x : Bool) → ltb m r.messages.count ≡ x → both x (ltb m 1024) ≡ false
       → stage (book_of r) q m ≡ absent
   unfolding stage choose both book_of
   absent_past q long true h none =
-      rw (get_or-eq_default r.places 0 {n = m} (omega (arith, long, ltb-false m 1024 none)), digit_zero 4 q)
-      (neither (both (trusted (book_of r) q) (ltb m r.count)))
+      rw (get_or-eq_default r.messages.places 0 {n = m} (omega (arith, long, ltb-false m 1024 none)), digit_zero 4 q)
+      (neither (both (trusted (book_of r) q) (ltb m r.messages.count)))
   absent_past q long false h none = rw (h, both_none)
 
-  pub stage_none : (q : ℕ) → length r.places ≡ 1024 → sent_in r.count m ≡ false → stage (book_of r) q m ≡ absent
+  pub stage_none : (q : ℕ) → length r.messages.places ≡ 1024 → sent_in r.messages.count m ≡ false → stage (book_of r) q m ≡ absent
   stage_none q long none = absent_past q long _ refl none

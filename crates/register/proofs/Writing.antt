@@ -9,34 +9,12 @@ use lib.Seq.{set-get_or, set-set, set_comm}
 use Rattle.words.specs.Tests.{choose}
 use Rattle.register.specs.Types.{Office, Kind, Header, Content, OfficeState, Book, BlockEntry, Change}
 use Rattle.register.specs.Books.{Blocks, Messages, block, epoch, blocks_of, messages_of, changed}
-use Rattle.register.specs.Tables.{state_of, named, is_vote}
+use Rattle.register.specs.Tables.{state_of, named}
 use Rattle.register.specs.Effects.{with_block, with_named, sent_stage, sent_place, with_sent, with_moved, with_acted, with_state, with_next_epoch}
 use Rattle.register.specs.Changes.{unchanged_of, change, timing, acting, naming, sending, moving, holding, moved_place}
+use Rattle.register.specs.Written.{blocks_after, messages_after, written}
+use Rattle.register.proofs.Typing.{vote_kind}
 use Rattle.register.proofs.Naming.{next_block}
-
--- the tables of blocks and of messages with a change's entries in them, and the book with a change written to it
-abbrev blocks_after : Book → Change → Blocks
-blocks_after r c =
-    record {
-      last = c.block.last;
-      parents = set r.parents c.block.at c.block.header.parent.0;
-      epochs = set r.epochs c.block.at c.block.header.epoch.0;
-      payloads = set r.payloads c.block.at c.block.header.payload;
-    }
-
-abbrev messages_after : Book → Change → Messages
-messages_after r c =
-    record {
-      count = c.message.count;
-      votes = set r.votes c.message.at c.message.vote;
-      signers = set r.signers c.message.at c.message.signer.0;
-      about = set r.about c.message.at c.message.about.0;
-      places = set (set r.places c.message.at c.message.place) c.place.at c.place.place;
-    }
-
-unfoldable pub written : Book → Change → Book
-written r c =
-    changed r c.clock.epoch c.clock.acted (blocks_after r c) (messages_after r c) (set r.offices c.office.at c.office.state)
 
 -- a change, by what it makes of each table
 by_tables : (r : Book) (c : Change) {B : Blocks} {M : Messages} {O : List OfficeState}
@@ -73,7 +51,7 @@ module _ (r : Book) (at : ℕ) where
       λ i.
       record {
         count = r.count;
-        votes = kept r.votes false i;
+        votes = (ap (set r.votes 0) (vote_kind _) ∙ kept r.votes false) i;
         signers = kept r.signers 0 i;
         about = kept r.about 0 i;
         places = set (kept r.places 0 i) m w;
@@ -106,23 +84,23 @@ module _ (r : Book) (at : ℕ) where
 
   -- bad send: the word of the message's places is set twice
   pub writes_sent : (actor : ℕ) (new : Content)
-      → written r (sending same r.count (is_vote new.kind) new.signer new.about (sent_place r actor)) ≡ with_sent r actor new
+      → written r (sending same r.count new.kind new.signer new.about (sent_place r actor)) ≡ with_sent r actor new
   unfolding unchanged_of with_sent
   writes_sent actor new =
       let w : ℕ = sent_place r actor in
-      let c : Change = sending same r.count (is_vote new.kind) new.signer new.about w in
+      let c : Change = sending same r.count new.kind new.signer new.about w in
       by_tables r c kept_blocks (ap (placed (messages_after r c)) (set-set r.places r.count w w)) kept_office
 
   -- vote: the proposal comes into the view, and a vote for its block is sent
   pub writes_vote : (m b : ℕ) (office : Office) → (r.count ≡ m → ⊥)
       → written r
-      (acting (moving (sending same r.count true office (block b) (sent_place r office.0)) m (moved_place r m office.0 3)) office.0)
+      (acting (moving (sending same r.count Kind.Vote office (block b) (sent_place r office.0)) m (moved_place r m office.0 3)) office.0)
       ≡ with_acted (with_sent (with_moved r m office.0 3) office.0 (record { kind = Kind.Vote; signer = office; about = block b })) office.0
-  unfolding unchanged_of with_acted with_sent with_moved is_vote sent_stage
+  unfolding unchanged_of with_acted with_sent with_moved sent_stage
   writes_vote m b office other =
       let w : ℕ = sent_place r office.0 in
       let moved : ℕ = moved_place r m office.0 3 in
-      let c : Change = acting (moving (sending same r.count true office (block b) w) m moved) office.0 in
+      let c : Change = acting (moving (sending same r.count Kind.Vote office (block b) w) m moved) office.0 in
       by_tables r c kept_blocks (ap (placed (messages_after r c)) (set_comm r.places r.count m w moved other)) kept_office
 
   module _ (new : Header) where
@@ -149,14 +127,14 @@ module _ (r : Book) (at : ℕ) where
     -- the proposal of a block that is named so
     proposed : (office : Office) → Bool → ℕ → Change
     proposed office there b =
-        acting (sending (called there b) r.count false office (block b) (sent_place r office.0)) office.0
+        acting (sending (called there b) r.count Kind.Proposal office (block b) (sent_place r office.0)) office.0
 
     -- what it writes, by the same test
     writes_proposed : (office : Office) (there : Bool) (b : ℕ) → (there ≡ false → b ≡ r.last.0 + 1)
         → written r (proposed office there b)
         ≡ with_acted
         (with_sent (choose there r (with_block r new)) office.0 (record { kind = Kind.Proposal; signer = office; about = block b })) office.0
-    unfolding proposed called entry unchanged_of choose with_acted with_sent with_block is_vote sent_stage
+    unfolding proposed called entry unchanged_of choose with_acted with_sent with_block sent_stage
     writes_proposed office true b next =
         let w : ℕ = sent_place r office.0 in
         let c : Change = proposed office true b in
@@ -174,7 +152,7 @@ module _ (r : Book) (at : ℕ) where
     pub writes_propose : (office : Office)
         → written r
         (acting
-        (sending (naming same (named r new) new) r.count false office (block (named r new)) (sent_place r office.0)) office.0)
+        (sending (naming same (named r new) new) r.count Kind.Proposal office (block (named r new)) (sent_place r office.0)) office.0)
         ≡ with_acted
         (with_sent (with_named r new) office.0 (record { kind = Kind.Proposal; signer = office; about = block (named r new) })) office.0
     unfolding naming with_named proposed called entry unchanged_of

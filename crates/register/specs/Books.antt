@@ -1,9 +1,12 @@
--- A register is typed: its columns are of the four sorts. The rules read its book, which has the same fields in plain numbers; a book's effect is turned
--- back into a register. A register is the register of its book, and a book the book of its register (proofs/Typing.antt).
-use Rattle.std.specs.Prelude.{ℕ, Bool, List, map}
-use Rattle.register.specs.Types.{Office, Epoch, Block, OfficeState, Register, Book, Scalars}
+-- A register is typed: its columns are of the four sorts and of kinds. The rules read its book, which has the same fields in plain numbers and flags; a
+-- book's effect is turned back into a register. A register is the register of its book, and a book the book of its register (proofs/Typing.antt).
+use Rattle.std.specs.Prelude.{ℕ, Bool, true, false, List, map}
+pub use Rattle.tables.specs.Columns.{office_number, epoch_number, block_number}
+unfoldable pub use Rattle.tables.specs.Columns.{is_vote}
+use Rattle.tables.specs.Columns.{parents_of, epochs_of, votes_of, signers_of, about_of}
+use Rattle.register.specs.Types.{Office, Epoch, Block, Kind, OfficeState, Register, Book}
 
--- a number as one of the sorts, and back
+-- a number as one of the sorts
 abbrev pub office : ℕ → Office
 office q = record { 0 = q }
 
@@ -13,14 +16,10 @@ epoch e = record { 0 = e }
 abbrev pub block : ℕ → Block
 block b = record { 0 = b }
 
-abbrev pub office_number : Office → ℕ
-office_number o = o.0
-
-abbrev pub epoch_number : Epoch → ℕ
-epoch_number e = e.0
-
-abbrev pub block_number : Block → ℕ
-block_number b = b.0
+-- a message is a vote or a proposal
+unfoldable pub kind_of : (vote : Bool) → Kind
+kind_of true = Kind.Vote
+kind_of false = Kind.Proposal
 
 -- the book of a register
 unfoldable pub book_of : Register → Book
@@ -31,15 +30,15 @@ book_of r =
       scheduled = r.scheduled;
       leaders = map office_number r.leaders;
       epoch = r.epoch;
-      last = r.last;
-      parents = map block_number r.parents;
-      epochs = map epoch_number r.epochs;
-      payloads = r.payloads;
-      count = r.count;
-      votes = r.votes;
-      signers = map office_number r.signers;
-      about = map block_number r.about;
-      places = r.places;
+      last = r.blocks.last;
+      parents = parents_of r.blocks;
+      epochs = epochs_of r.blocks;
+      payloads = r.blocks.payloads;
+      count = r.messages.count;
+      votes = votes_of r.messages;
+      signers = signers_of r.messages;
+      about = about_of r.messages;
+      places = r.messages.places;
       acted = r.acted;
       offices = r.offices;
     }
@@ -53,30 +52,17 @@ register_of b =
       scheduled = b.scheduled;
       leaders = map office b.leaders;
       epoch = b.epoch;
-      last = b.last;
-      parents = map block b.parents;
-      epochs = map epoch b.epochs;
-      payloads = b.payloads;
-      count = b.count;
-      votes = b.votes;
-      signers = map office b.signers;
-      about = map block b.about;
-      places = b.places;
+      blocks = record { last = b.last; parents = map block b.parents; epochs = map epoch b.epochs; payloads = b.payloads };
+      messages =
+          record {
+            count = b.count;
+            kinds = map kind_of b.votes;
+            signers = map office b.signers;
+            about = map block b.about;
+            places = b.places;
+          };
       acted = b.acted;
       offices = b.offices;
-    }
-
--- a book's single numbers
-abbrev pub scalars_of : Book → Scalars
-scalars_of b =
-    record {
-      n = b.n;
-      trust = b.trust;
-      scheduled = b.scheduled;
-      epoch = b.epoch;
-      last = b.last;
-      count = b.count;
-      acted = b.acted;
     }
 
 -- the table of blocks: the last block, and each block's parent, epoch and payload

@@ -1,12 +1,14 @@
 -- What a step changes, as the code passes it on. Only contracts inside this crate cite these definitions; no promise to makers does.
-use Rattle.std.specs.Prelude.{ℕ, ◌+◌, Bool, true, false, ◌≡◌, eqb, leb, get_or}
+use Rattle.std.specs.Prelude.{ℕ, ◌+◌, Bool, false, Result, Ok, Err, eqb, leb, get_or}
+use Rattle.refusals.specs.declared.Refusal.{Refusal}
+use Rattle.refusals.specs.Numbers.{number_of}
 use Rattle.words.specs.Tests.{choose}
 use Rattle.words.specs.Digits.{with_member, with_stage}
 use Rattle.words.specs.Refusals.{first}
 use Rattle.tables.specs.Messages.{inbox, view}
-use Rattle.register.specs.Types.{Office, Block, Step, Header, OfficeState, Book, Clock, BlockEntry, MessageEntry, PlaceEntry, OfficeEntry, Answer, Change}
-use Rattle.register.specs.Books.{office, epoch, block}
-use Rattle.register.specs.Tables.{state_of, header_of, parent_of, named, is_vote, about_of}
+use Rattle.register.specs.Types.{Office, Block, Kind, Step, Header, OfficeState, Book, Clock, BlockEntry, MessageEntry, PlaceEntry, OfficeEntry, Answer, Change}
+use Rattle.register.specs.Books.{office, epoch, block, kind_of}
+use Rattle.register.specs.Tables.{state_of, header_of, parent_of, named, about_of}
 use Rattle.register.specs.Effects.{sent_place, finalising}
 use Rattle.register.specs.Steps.{rule_of}
 
@@ -20,7 +22,7 @@ unchanged_of r at state =
           record {
             count = r.count;
             at = 0;
-            vote = get_or r.votes 0 false;
+            kind = kind_of (get_or r.votes 0 false);
             signer = office (get_or r.signers 0 0);
             about = block (get_or r.about 0 0);
             place = get_or r.places 0 0;
@@ -58,10 +60,10 @@ naming c b new =
     c.place c.office c.answer
 
 -- the message of that number is sent
-abbrev pub sending : Change → (m : ℕ) → (vote : Bool) → (signer : Office) → (about : Block) → (word : ℕ) → Change
-sending c m vote signer about word =
+abbrev pub sending : Change → (m : ℕ) → Kind → (signer : Office) → (about : Block) → (word : ℕ) → Change
+sending c m kind signer about word =
     change c.clock c.block
-    (record { count = m + 1; at = m; vote = vote; signer = signer; about = about; place = word })
+    (record { count = m + 1; at = m; kind = kind; signer = signer; about = about; place = word })
     (record { at = m; place = word }) c.office c.answer
 
 -- the word of message m's places becomes that word
@@ -81,18 +83,18 @@ unfoldable pub entries_of : (unchanged : Change) → Book → Step → Change
 entries_of c r (Step.Propose office parent w) =
     let new : Header = record { parent = parent; epoch = r.epoch; payload = w } in
     acting
-    (sending (naming c (named r new) new) r.count false office (block (named r new)) (sent_place r office.0))
+    (sending (naming c (named r new) new) r.count Kind.Proposal office (block (named r new)) (sent_place r office.0))
     office.0
 entries_of c r (Step.Vote office message) =
     acting
-    (moving (sending c r.count true office (block (about_of r message.0)) (sent_place r office.0)) message.0
+    (moving (sending c r.count Kind.Vote office (block (about_of r message.0)) (sent_place r office.0)) message.0
     (moved_place r message.0 office.0 view))
     office.0
 entries_of c r (Step.Register office message) = moving c message.0 (moved_place r message.0 office.0 view)
 entries_of c r (Step.Finalise office newest) = holding c (finalising c.office.state (parent_of r newest.0))
 entries_of c r (Step.Deliver message office) = moving c message.0 (moved_place r message.0 office.0 inbox)
 entries_of c r (Step.BadSend sender kind signer about) =
-    sending c r.count (is_vote kind) signer about (sent_place r sender.0)
+    sending c r.count kind signer about (sent_place r sender.0)
 entries_of c r (Step.Draft parent epoch w) =
     let new : Header = record { parent = parent; epoch = epoch; payload = w } in
     naming c (named r new) new
@@ -109,7 +111,7 @@ unfoldable pub change_of : (fits : Bool) → Book → (at : ℕ) → Step → Ch
 change_of fits r at step =
     choose fits (change_by (unchanged_of r at (state_of r at)) r step) (refusing (unchanged_of r at (state_of r at)) 5)
 
--- the same of every book in which the office at that place holds that state
-abbrev pub ChangeFor : (fits : Bool) → (given : Book → Book) → (at : ℕ) → OfficeState → Step → Change → Type 0
-ChangeFor fits given at state step c =
-    (rest : Book) → state_of rest at ≡ state → c ≡ change_of fits (given rest) at step
+-- the change that is told: the one that was made, or the refusal
+abbrev pub told : (unchanged : Change) → Result Change Refusal → Change
+told c (Ok change) = change
+told c (Err refusal) = refusing c (number_of refusal)

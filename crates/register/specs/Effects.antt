@@ -4,8 +4,8 @@ use Rattle.words.specs.Tests.{choose}
 use Rattle.words.specs.Digits.{fill, with_member, with_stage}
 use Rattle.tables.specs.Messages.{absent, transit, view}
 use Rattle.register.specs.Types.{Header, Content, OfficeState, Book}
-use Rattle.register.specs.Books.{epoch, block, blocks_of, messages_of, changed}
-use Rattle.register.specs.Tables.{trusted, named, is_vote}
+use Rattle.register.specs.Books.{epoch, block, is_vote, blocks_of, messages_of, changed}
+use Rattle.register.specs.Tables.{trusted, named}
 
 -- the next block is made so
 unfoldable pub with_block : Book → Header → Book

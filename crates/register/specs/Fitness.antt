@@ -1,20 +1,19 @@
 -- When a register is fit: every number in it is in its range. It says nothing of equal blocks, of marks or of places.
 use Rattle.std.specs.Prelude.{ℕ, ◌+◌, Bool, not, List, [], ◌∷◌, ltb, leb, get_or}
 use Rattle.words.specs.Tests.{both, either, conj, all, between}
-use Rattle.register.specs.Types.{OfficeState, Book, Scalars}
-use Rattle.register.specs.Books.{scalars_of}
+use Rattle.register.specs.Types.{OfficeState, Book}
 use Rattle.register.specs.Limits.{most_offices, most_epochs, most_blocks, most_messages, widest_epoch}
 use Rattle.register.specs.Tables.{trusted, state_of}
 
 -- the single numbers: offices, schedule length, epoch, number of blocks and number of messages
-unfoldable pub counts_fit : Scalars → Bool
-counts_fit s =
+unfoldable pub counts_fit : Book → Bool
+counts_fit r =
     conj
-    (between 1 most_offices s.n
-    ∷ between 1 most_epochs s.scheduled
-    ∷ between 1 s.scheduled s.epoch.0
-    ∷ leb s.last.0 most_blocks
-    ∷ leb s.count most_messages
+    (between 1 most_offices r.n
+    ∷ between 1 most_epochs r.scheduled
+    ∷ between 1 r.scheduled r.epoch.0
+    ∷ leb r.last.0 most_blocks
+    ∷ leb r.count most_messages
     ∷ [])
 
 -- every leader of the schedule is an office
@@ -50,4 +49,4 @@ abbrev pub tables_fit : Book → List Bool
 tables_fit r = leaders_fit r ∷ blocks_fit r ∷ messages_fit r ∷ offices_fit r ∷ []
 
 unfoldable pub fit : Book → Bool
-fit r = conj (counts_fit (scalars_of r) ∷ tables_fit r)
+fit r = conj (counts_fit r ∷ tables_fit r)

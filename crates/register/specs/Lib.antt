@@ -1,5 +1,5 @@
 -- The rules of the register. Read in this order, after the specs of `tables`, where what single columns say is defined (each name that ends in
--- `_in`, the four stages, `chain_by`). Lent, Changes and Settled are for contracts inside the crate alone.
+-- `_in`, the four stages, `chain_by`). Counted, Changes, Written and Settled are for contracts inside the crate alone.
 pub mod Types
 pub mod Limits
 pub mod Books
@@ -13,6 +13,7 @@ pub mod Effects
 pub mod Steps
 pub mod Runs
 pub mod Promises
-pub mod Lent
+pub mod Counted
 pub mod Changes
 pub mod Settled
+pub mod Written

@@ -4,7 +4,8 @@ use Rattle.words.specs.Tests.{both, either, conj}
 use Rattle.tables.specs.Messages.{history_in}
 use Rattle.register.specs.Types.{Kind, Header, Book}
 use Rattle.register.specs.Limits.{most_blocks, most_messages, widest_epoch}
-use Rattle.register.specs.Tables.{trusted, leader_of, final_of, parent_of, epoch_of, named, signer_of, about_of, is_vote}
+use Rattle.register.specs.Books.{is_vote}
+use Rattle.register.specs.Tables.{trusted, leader_of, final_of, parent_of, epoch_of, named, signer_of, about_of}
 use Rattle.register.specs.Views.{in_transit, in_inbox, signed, notarised}
 use Rattle.register.specs.Chains.{chain_length, chain_notarised_by, longest}
 

@@ -1,12 +1,12 @@
 -- Offices, blocks and messages as the book holds them. Inside the rules a number is an ℕ; a rule's own parameters are of the four sorts. A
 -- definition that ends in `_in` speaks of columns and stands in the specs of `tables`; here it is said of a book.
-use Rattle.std.specs.Prelude.{ℕ, ◌-◌, Bool, true, false, List, ltb, leb, get_or}
+use Rattle.std.specs.Prelude.{ℕ, ◌-◌, Bool, false, List, ltb, leb, get_or}
 use Rattle.words.specs.Tests.{choose, both, between}
 use Rattle.words.specs.Digits.{in_set}
 use Rattle.tables.specs.Blocks.{trusted_in, made_in, parent_in, epoch_in, named_in}
 use Rattle.register.specs.Types.{Office, Kind, Header, Content, OfficeState, Book}
 use Rattle.register.specs.Limits.{most_epochs, most_messages}
-use Rattle.register.specs.Books.{office, epoch, block}
+use Rattle.register.specs.Books.{office, epoch, block, kind_of}
 
 -- the office is there, and its bit in the trust word is 1
 abbrev pub trusted : Book → ℕ → Bool
@@ -72,15 +72,6 @@ header_for r b =
 -- the lowest block from 1 up that has that parent, epoch and payload; the next number where there is none
 abbrev pub named : Book → Header → ℕ
 named r h = named_in r.parents r.epochs r.payloads r.last.0 h.parent.0 h.epoch.0 h.payload
-
--- a message is a vote or a proposal
-unfoldable pub kind_of : (vote : Bool) → Kind
-kind_of true = Kind.Vote
-kind_of false = Kind.Proposal
-
-unfoldable pub is_vote : Kind → Bool
-is_vote Kind.Vote = true
-is_vote Kind.Proposal = false
 
 -- what message m says: its kind, its signer and its block
 abbrev pub content_of : Book → ℕ → Content

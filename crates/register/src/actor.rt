@@ -10,18 +10,19 @@ use crate::sorts::{Block, Office};
 use crate::step::Step;
 use crate::table::OfficeState;
 
-// The acting office: its place in the table of offices, what it holds, and a block whose chain is known to be notarised in its view.
+// The acting office: its place in the table of offices, and a block whose chain is known to be notarised in its view.
+// Actors are not compared.
 #[derive(Clone, Copy)]
 pub struct Actor {
     pub at: usize,
-    pub state: OfficeState,
     pub base: Block,
 }
 
 // An office that is not there.
 const NOBODY: Office = Office(32);
 
-// The office whose state a step may change; one that is not there for a step that changes none.
+// The office whose state a step may change; one that is not there for a step that changes none. It is no `Option`, here as in `actor_of` of the
+// specs: an office that is not there is in no set, so whoever is given it needs no case for it.
 pub(crate) fn actor_of(step: Step) -> Office
     ensures { result ≡ actor_of step }
 {
@@ -39,8 +40,8 @@ pub(crate) fn place_of(office: Office) -> usize
     if at < OFFICES { at } else { 0 }
 }
 
-// The final block that the office holds, where a step of the batch made it final; else genesis. The set is a word of 32 bits, as a caller that has it
-// from a loop learns here.
+// The final block that the office holds, where a step of the batch made it final; else genesis, whose chain is notarised in every view. The set is a word of
+// 32 bits, as a caller that has it from a loop learns here.
 pub(crate) fn settled_base(state: OfficeState, settled: u32, office: Office) -> Block
     ensures { (result ≡ settled_base state settled office.0) × (settled < 2 ^ 32) }
 {
@@ -51,7 +52,8 @@ pub(crate) fn settled_base(state: OfficeState, settled: u32, office: Office) -> 
     }
 }
 
-// The offices that a step of the batch made a block final for, after one more step of that office, which got that refusal, 0 where it was accepted.
+// The offices that a step of the batch made a block final for, after one more step of that office, which got that refusal, 0 where it was accepted:
+// the number that the batch's answers have.
 pub(crate) fn settled_after(settled: u32, office: Office, refusal: u8) -> u32
     ensures { result ≡ choose (eqb refusal 0) (with_member settled office.0) settled }
 {

@@ -1,6 +1,7 @@
 // What a step changes, as a small value: the answer, and one entry for each table with the numbers that stand beside the table. Where a step leaves a
-// table alone the entry is one that the table has already, so that a change is written to the book without a branch.
+// table alone the entry is one that the table has already, so that a change is written to the book without a branch. Nobody compares two changes.
 ghost use Rattle.std.specs.Prelude.{◌≡◌, ◌≤◌};
+ghost use Rattle.refusals.specs.Numbers.{number_of};
 ghost use Rattle.register.specs.Limits.{most_messages};
 ghost use Rattle.register.specs.Changes.{
   refusing,
@@ -13,8 +14,10 @@ ghost use Rattle.register.specs.Changes.{
   holding,
 };
 
-use crate::sorts::{Block, Epoch, Message, Office};
-use crate::table::{Header, OfficeState};
+use crate::sorts::{Block, Epoch, Kind, Message, Office};
+use crate::table::OfficeState;
+use refusals::Refusal;
+use tables::Header;
 
 // The current epoch, and the offices that have acted in it.
 #[derive(Clone, Copy)]
@@ -36,7 +39,7 @@ pub struct BlockEntry {
 pub struct MessageEntry {
     pub count: u16,
     pub at: usize,
-    pub vote: bool,
+    pub kind: Kind,
     pub signer: Office,
     pub about: Block,
     pub place: u64,
@@ -56,7 +59,7 @@ pub struct OfficeEntry {
     pub state: OfficeState,
 }
 
-// 0 or the refusal, and the value.
+// 0 or the refusal, and the value: the batch has a column for each, where both are put as they are.
 #[derive(Clone, Copy)]
 pub struct Answer {
     pub value: u16,
@@ -77,11 +80,13 @@ pub struct Change {
 
 impl Change {
     // A refused step: nothing but the answer.
-    pub(crate) fn refused(mut self, refusal: u8) -> Change
-        ensures { result ≡ refusing self refusal }
+    pub(crate) fn refused(mut self, refusal: Refusal) -> Change
+        ensures { result ≡ refusing self (number_of refusal) }
     {
-        let answer = Answer { value: 0, refusal };
-        self.answer = answer;
+        self.answer = Answer {
+            value: 0,
+            refusal: refusal.number(),
+        };
         self
     }
 
@@ -89,8 +94,7 @@ impl Change {
     pub(crate) fn accepted(mut self, value: u16) -> Change
         ensures { result ≡ accepting self value }
     {
-        let answer = Answer { value, refusal: 0 };
-        self.answer = answer;
+        self.answer = Answer { value, refusal: 0 };
         self
     }
 
@@ -106,8 +110,10 @@ impl Change {
     pub(crate) fn acted(self, office: Office) -> Change
         ensures { result ≡ acting self office.0 }
     {
-        let mut clock = self.clock;
-        clock.acted = words::with_member(clock.acted, office.0);
+        let clock = Clock {
+            epoch: self.clock.epoch,
+            acted: words::with_member(self.clock.acted, office.0),
+        };
         self.timed(clock)
     }
 
@@ -118,12 +124,11 @@ impl Change {
         if b.0 <= self.block.last.0 {
             return self;
         }
-        let block = BlockEntry {
+        self.block = BlockEntry {
             last: b,
             at: b.0 as usize,
             header,
         };
-        self.block = block;
         self
     }
 
@@ -131,26 +136,24 @@ impl Change {
     pub(crate) fn sent(
         mut self,
         message: Message,
-        vote: bool,
+        kind: Kind,
         signer: Office,
         about: Block,
         word: u64,
     ) -> Change
         requires { message.0 ≤ most_messages }
-        ensures { result ≡ sending self message.0 vote signer about word }
+        ensures { result ≡ sending self message.0 kind signer about word }
     {
         let at = message.0 as usize;
-        let entry = MessageEntry {
+        self.message = MessageEntry {
             count: message.0 + 1,
             at,
-            vote,
+            kind,
             signer,
             about,
             place: word,
         };
-        let place = PlaceEntry { at, place: word };
-        self.message = entry;
-        self.place = place;
+        self.place = PlaceEntry { at, place: word };
         self
     }
 
@@ -158,11 +161,10 @@ impl Change {
     pub(crate) fn moved(mut self, message: Message, word: u64) -> Change
         ensures { result ≡ moving self message.0 word }
     {
-        let place = PlaceEntry {
+        self.place = PlaceEntry {
             at: message.0 as usize,
             place: word,
         };
-        self.place = place;
         self
     }
 
@@ -170,11 +172,10 @@ impl Change {
     pub(crate) fn held(mut self, state: OfficeState) -> Change
         ensures { result ≡ holding self state }
     {
-        let entry = OfficeEntry {
+        self.office = OfficeEntry {
             at: self.office.at,
             state,
         };
-        self.office = entry;
         self
     }
 }

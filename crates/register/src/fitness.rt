@@ -1,149 +1,134 @@
 // Whether a register is fit: every number in it is in its range.
-ghost use Rattle.std.specs.Prelude.{◌≡◌, not, ◌+◌, ◌≤◌, ltb, get_or};
+ghost use Rattle.std.specs.Prelude.{◌≡◌, ℕ, Bool, not, ◌+◌, ◌≤◌, ◌<◌, map, ltb, get_or};
 ghost use Rattle.words.specs.Tests.{either, conj, all};
 ghost use Rattle.tables.specs.Blocks.{trusted_in};
+ghost use Rattle.tables.specs.Columns.{office_number, parents_of, epochs_of, signers_of, about_of};
 ghost use Rattle.register.specs.Limits.{most_offices, most_epochs, most_messages};
-ghost use Rattle.register.specs.Books.{book_of, scalars_of};
+ghost use Rattle.register.specs.Books.{book_of};
 ghost use Rattle.register.specs.Tables.{state_in};
 ghost use Rattle.register.specs.Fitness.{counts_fit, block_fits, message_fits, state_fits, tables_fit, fit};
-ghost use Rattle.register.specs.Lent.{Counted};
+ghost use Rattle.register.specs.Counted.{Counted};
+ghost use Rattle.register.specs.Promises.{Sizes};
 
-use crate::book::{Book, Scalars};
-use crate::columns::{About, Epochs, Leaders, Parents, Signers};
 use crate::limits::{EPOCHS, MOST_BLOCKS, MOST_MESSAGES, OFFICES, WIDEST_EPOCH};
 use crate::table::{OfficeState, Register};
+use tables::{Block, Blocks, Epoch, Messages, Office};
 
 // The single numbers are in their ranges.
-fn counts_fit(scalars: Scalars) -> bool
-    ensures { result ≡ counts_fit scalars }
+fn counts_fit(register: &Register) -> bool
+    ensures { result ≡ counts_fit (book_of register.now) }
 {
-    let scheduled = scalars.scheduled as usize;
-    words::between(1, OFFICES, scalars.n as usize)
+    let scheduled = register.scheduled as usize;
+    words::between(1, OFFICES, register.n as usize)
         & words::between(1, EPOCHS, scheduled)
-        & words::between(1, scheduled, scalars.epoch.0 as usize)
-        & (scalars.last.0 as u16 <= MOST_BLOCKS)
-        & (scalars.count <= MOST_MESSAGES)
+        & words::between(1, scheduled, register.epoch.0 as usize)
+        & (register.blocks.last.0 as u16 <= MOST_BLOCKS)
+        & (register.messages.count <= MOST_MESSAGES)
+}
+
+// Each number below `size` passes the test, where p says of each what the test does. The loop has no branch, so that many entries of a column are
+// compared at once.
+fn all_pass<F: Fn(usize) -> bool>(size: usize, test: F) -> bool
+    requires { (i : ℕ) → i < size → F.pre test i }
+    ensures { (p : ℕ → Bool) → ((i : ℕ) → i < size → (t : Bool) → F.post test i t → t ≡ p i) → result ≡ all size p }
+{
+    let mut fits = true;
+    for i in 0..size {
+        fits = fits & test(i);
+    }
+    fits
 }
 
 // Every leader of the schedule is an office.
-fn leaders_fit(leaders: &Leaders, scheduled: usize, n: u8) -> bool
+fn leaders_fit(leaders: &[Office; EPOCHS], scheduled: usize, n: u8) -> bool
     requires { scheduled ≤ most_epochs }
-    ensures { result ≡ all scheduled (λ i. ltb (get_or leaders.now i 0) n) }
+    ensures { result ≡ all scheduled (λ i. ltb (get_or (map office_number leaders.now) i 0) n) }
 {
-    let mut fits = true;
-    let mut i = 0;
-    while i < scheduled {
-        fits = fits & (leaders[i] < n);
-        i += 1;
-    }
-    fits
+    all_pass(scheduled, |i| leaders[i].0 < n)
 }
 
 // A block has a smaller parent, and an epoch up to 511.
-fn block_fits(b: u8, parent: u8, epoch: u16) -> bool
-    ensures { result ≡ block_fits b parent epoch }
+fn block_fits(b: u8, parent: Block, epoch: Epoch) -> bool
+    ensures { result ≡ block_fits b parent.0 epoch.0 }
 {
-    (parent < b) & (epoch <= WIDEST_EPOCH)
+    (parent.0 < b) & (epoch.0 <= WIDEST_EPOCH)
 }
 
 // Every block from 1 to the last fits.
-fn blocks_fit<'a>(parents: &'a Parents, epochs: &'a Epochs, last: u8) -> bool
-    ensures { result ≡ all last
-        (λ k. block_fits (k + 1) (get_or parents.now (k + 1) 0) (get_or epochs.now (k + 1) 0)) }
+fn blocks_fit(blocks: &Blocks) -> bool
+    ensures { result ≡ all blocks.now.last.0
+        (λ k. block_fits (k + 1) (get_or (parents_of blocks.now) (k + 1) 0) (get_or (epochs_of blocks.now) (k + 1) 0)) }
 {
-    let mut fits = true;
-    let mut k = 0;
-    while k < last {
-        let b = k + 1;
-        let at = b as usize;
-        fits = fits & block_fits(b, parents[at], epochs[at]);
-        k += 1;
-    }
-    fits
+    all_pass(
+        blocks.last.0 as usize,
+        |k| block_fits(k as u8 + 1, blocks.parents[k + 1], blocks.epochs[k + 1]),
+    )
 }
 
 // A message has an office for its signer and a block that has been made, genesis excepted.
-fn message_fits(n: u8, last: u8, signer: u8, about: u8) -> bool
-    ensures { result ≡ message_fits n last signer about }
+fn message_fits(n: u8, last: Block, signer: Office, about: Block) -> bool
+    ensures { result ≡ message_fits n last.0 signer.0 about.0 }
 {
-    (signer < n) & ((1 <= about) & (about <= last))
+    (signer.0 < n) & ((1 <= about.0) & (about.0 <= last.0))
 }
 
 // Every message sent fits.
-fn messages_fit<'a>(signers: &'a Signers, about: &'a About, count: usize, n: u8, last: u8) -> bool
-    requires { count ≤ most_messages }
-    ensures { result ≡ all count (λ m. message_fits n last (get_or signers.now m 0) (get_or about.now m 0)) }
+fn messages_fit(messages: &Messages, n: u8, last: Block) -> bool
+    requires { messages.now.count ≤ most_messages }
+    ensures { result ≡ all messages.now.count
+        (λ m. message_fits n last.0 (get_or (signers_of messages.now) m 0) (get_or (about_of messages.now) m 0)) }
 {
-    let mut fits = true;
-    let mut m = 0;
-    while m < count {
-        fits = fits & message_fits(n, last, signers[m], about[m]);
-        m += 1;
-    }
-    fits
+    all_pass(
+        messages.count as usize,
+        |m| message_fits(n, last, messages.signers[m], messages.about[m]),
+    )
 }
 
 // What an office holds fits: its final block is genesis or has been made.
-fn state_fits(last: u8, state: OfficeState) -> bool
-    ensures { result ≡ state_fits last state }
+fn state_fits(last: Block, state: OfficeState) -> bool
+    ensures { result ≡ state_fits last.0 state }
 {
-    state.finalised.0 <= last
+    state.finalised.0 <= last.0
 }
 
 // So does what every trusted office holds.
-fn offices_fit(offices: [OfficeState; OFFICES], n: u8, trust: u32, last: u8) -> bool
+fn offices_fit(offices: &[OfficeState; OFFICES], n: u8, trust: u32, last: Block) -> bool
     requires { n ≤ most_offices }
-    ensures { result ≡ all n (λ q. either (not (trusted_in n trust q)) (state_fits last (state_in offices q))) }
+    ensures { result ≡ all n (λ q. either (not (trusted_in n trust q)) (state_fits last.0 (state_in offices.now q))) }
 {
-    let mut fits = true;
-    let mut q = 0;
-    while q < n {
-        let state = offices[q as usize];
-        fits = fits & (!words::has(trust, q) | state_fits(last, state));
-        q += 1;
-    }
-    fits
+    all_pass(
+        n as usize,
+        |q| !words::has(trust, q as u8) | state_fits(last, offices[q]),
+    )
 }
 
-impl Book {
-    // Every number in the tables of a book is in its range, where its single numbers are.
-    fn tables_fit(&self) -> bool
-        requires { Counted (scalars_of self.now) }
-        ensures { result ≡ conj (tables_fit self.now) }
-    {
-        let n = self.n;
-        let last = self.last.0;
-        let offices = self.offices;
-        leaders_fit(&self.leaders, self.scheduled as usize, n)
-            & blocks_fit(&self.parents, &self.epochs, last)
-            & messages_fit(&self.signers, &self.about, self.count as usize, n, last)
-            & offices_fit(offices, n, self.trust, last)
-    }
-
-    // Every number of the book is in its range; payloads, places and kinds of messages are no matter. The counts come first, so that no table is
-    // read past its end. The book is lent, so that the test costs no copy of it.
-    pub fn fits(&self) -> bool
-        ensures { result ≡ fit self.now }
-    {
-        if !counts_fit(self.scalars()) {
-            return false;
-        }
-        self.tables_fit()
-    }
-
-    // The same of a book that is handed over.
-    pub fn is_fit(self) -> bool
-        ensures { result ≡ fit self }
-    {
-        self.fits()
-    }
+// Every number in the tables is in its range, where the single numbers are.
+fn tables_fit(register: &Register) -> bool
+    requires { Counted register.now }
+    ensures { result ≡ conj (tables_fit (book_of register.now)) }
+{
+    let n = register.n;
+    let last = register.blocks.last;
+    leaders_fit(&register.leaders, register.scheduled as usize, n)
+        & blocks_fit(&register.blocks)
+        & messages_fit(&register.messages, n, last)
+        & offices_fit(&register.offices, n, register.trust, last)
 }
 
 impl Register {
-    // Every number of the register is in its range.
-    pub fn is_fit(self) -> bool
-        ensures { result ≡ fit (book_of self) }
+    // The columns have the sizes of their arrays. The call does nothing; a proof that has the register behind a reference learns it here.
+    pub fn know_sizes(&self)
+        ensures { Sizes (book_of self.now) }
     {
-        self.book().is_fit()
+        self.blocks.know_sizes();
+        self.messages.know_sizes();
+    }
+
+    // Every number of the register is in its range; payloads, places and kinds of messages are no matter. The counts come first, so that no table
+    // is read past its end.
+    pub fn is_fit(&self) -> bool
+        ensures { result ≡ fit (book_of self.now) }
+    {
+        counts_fit(self) && tables_fit(self)
     }
 }

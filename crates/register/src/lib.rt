@@ -2,9 +2,7 @@
 #![tactic(auto)]
 
 mod actor;
-mod book;
 mod change;
-mod columns;
 mod entries;
 mod fitness;
 pub mod limits;
@@ -17,8 +15,8 @@ pub mod step;
 mod steps;
 pub mod table;
 
-pub use book::Book;
 pub use sorts::{Block, Epoch, Kind, Message, Office, Stage};
 pub use step::Step;
 pub use steps::are_consecutive;
-pub use table::{Answers, Content, Header, Notarised, OfficeState, Opened, Ran, Register, Stepped};
+pub use table::{Answers, Content, Notarised, OfficeState, Opened, Ran, Register, Stepped};
+pub use tables::{Blocks, Header, Messages};

@@ -1,52 +1,53 @@
 // Opening a register.
-ghost use Rattle.std.specs.Prelude.{◌≡◌, ◌≤◌, length};
+ghost use Rattle.std.specs.Prelude.{◌≡◌, ◌≤◌, map, length};
 ghost use Rattle.register.specs.Limits.{most_epochs};
-ghost use Rattle.register.specs.Opening.{leader_table, blank, closed, fresh_book, opening};
+ghost use Rattle.register.specs.Books.{office, register_of};
+ghost use Rattle.register.specs.Opening.{leader_table, blank, closed, fresh, opening};
+ghost use Rattle.tables.specs.Columns.{office_number};
 
-use crate::book::Book;
-use crate::columns::Leaders;
 use crate::limits::{BLOCKS, EPOCHS, MESSAGES, OFFICES};
-use crate::sorts::{Block, Epoch};
 use crate::table::{OfficeState, Opened, Register};
+use tables::{Block, Blocks, Epoch, Kind, Messages, Office};
 
 // The table of leaders: the schedule, and office 0 past its end.
-fn leader_table(schedule: &[u8]) -> Leaders
+fn leader_table(schedule: &[u8]) -> [Office; EPOCHS]
     requires { length schedule.now ≤ most_epochs }
-    ensures { result ≡ leader_table schedule.now }
+    ensures { result ≡ map office (leader_table schedule.now) }
 {
-    let mut leaders = [0u8; EPOCHS];
-    let mut i = 0;
-    while i < schedule.len() {
-        leaders[i] = schedule[i];
-        i += 1;
+    let mut leaders = [Office(0); EPOCHS];
+    for i in 0..schedule.len() {
+        leaders[i] = Office(schedule[i]);
     }
     leaders
 }
 
-// A book of that epoch with no blocks but genesis and no messages, in which all are ready.
-fn blank(n: u8, trust: u32, scheduled: u16, epoch: u16, leaders: Leaders) -> Book
-    ensures { result ≡ blank n trust scheduled epoch leaders }
+// A register of that epoch with no blocks but genesis and no messages, in which all are ready.
+fn blank(n: u8, trust: u32, scheduled: u16, epoch: Epoch, leaders: [Office; EPOCHS]) -> Register
+    ensures { result ≡ register_of (blank n trust scheduled epoch.0 (map office_number leaders)) }
 {
-    let state = OfficeState {
-        finalised: Block(0),
-    };
-    Book {
+    Register {
         n,
         trust,
         scheduled,
         leaders,
-        epoch: Epoch(epoch),
-        last: Block(0),
-        parents: [0; BLOCKS],
-        epochs: [0; BLOCKS],
-        payloads: [0; BLOCKS],
-        count: 0,
-        votes: [false; MESSAGES],
-        signers: [0; MESSAGES],
-        about: [0; MESSAGES],
-        places: [0; MESSAGES],
+        epoch,
+        blocks: Blocks {
+            last: Block(0),
+            parents: [Block(0); BLOCKS],
+            epochs: [Epoch(0); BLOCKS],
+            payloads: [0; BLOCKS],
+        },
+        messages: Messages {
+            count: 0,
+            kinds: [Kind::Proposal; MESSAGES],
+            signers: [Office(0); MESSAGES],
+            about: [Block(0); MESSAGES],
+            places: [0; MESSAGES],
+        },
         acted: 0,
-        offices: [state; OFFICES],
+        offices: [OfficeState {
+            finalised: Block(0),
+        }; OFFICES],
     }
 }
 
@@ -54,19 +55,19 @@ fn blank(n: u8, trust: u32, scheduled: u16, epoch: u16, leaders: Leaders) -> Boo
 pub fn closed() -> Register
     ensures { result ≡ closed }
 {
-    blank(0, 0, 0, 0, [0; EPOCHS]).register()
+    blank(0, 0, 0, Epoch(0), [Office(0); EPOCHS])
 }
 
-// The book of an opening that is not refused; trust bits from n up are stored as 0.
-fn fresh_book(n: u8, trust: u32, schedule: &[u8]) -> Book
+// The register of an opening that is not refused; trust bits from n up are stored as 0.
+fn fresh(n: u8, trust: u32, schedule: &[u8]) -> Register
     requires { length schedule.now ≤ most_epochs }
-    ensures { result ≡ fresh_book n trust schedule.now }
+    ensures { result ≡ fresh n trust schedule.now }
 {
     blank(
         n,
         words::below(trust, n),
         schedule.len() as u16,
-        1,
+        Epoch(1),
         leader_table(schedule),
     )
 }
@@ -76,16 +77,15 @@ impl Register {
     pub fn open(n: u8, trust: u32, schedule: &[u8]) -> Opened
         ensures { result ≡ opening n trust schedule.now }
     {
-        let refusal = quorum::opening_refusal(n, trust, schedule);
-        if refusal == 0 {
-            return Opened {
-                register: fresh_book(n, trust, schedule).register(),
-                refusal,
-            };
-        }
-        Opened {
-            register: closed(),
-            refusal,
+        match quorum::check_opening(n, trust, schedule) {
+            Ok(()) => Opened {
+                register: fresh(n, trust, schedule),
+                refusal: 0,
+            },
+            Err(refusal) => Opened {
+                register: closed(),
+                refusal: refusal.number(),
+            },
         }
     }
 }

@@ -1,59 +1,61 @@
-// The numbers of refusal of an opening and of a step; 0 stands for none.
+// The numbers of refusal of an opening and of a step; 0 stands for none. Makers know them by these names, a rule of the project; the enum is `Refusal`.
 ghost use Rattle.std.specs.Prelude.{◌≡◌, [], ◌∷◌};
 
-pub const COUNT: u8 = quorum::COUNT;
+pub use refusals::Refusal;
 
-pub const SCHEDULE: u8 = quorum::SCHEDULE;
+pub const COUNT: u8 = Refusal::Count as u8;
 
-pub const STRAY_LEADER: u8 = quorum::STRAY_LEADER;
+pub const SCHEDULE: u8 = Refusal::Schedule as u8;
 
-pub const THIRD: u8 = quorum::THIRD;
+pub const STRAY_LEADER: u8 = Refusal::StrayLeader as u8;
 
-pub const UNFIT_REGISTER: u8 = 5;
+pub const THIRD: u8 = Refusal::Third as u8;
 
-pub const NO_OFFICE: u8 = 6;
+pub const UNFIT_REGISTER: u8 = Refusal::UnfitRegister as u8;
 
-pub const NO_BLOCK: u8 = 7;
+pub const NO_OFFICE: u8 = Refusal::NoOffice as u8;
 
-pub const NO_MESSAGE: u8 = 8;
+pub const NO_BLOCK: u8 = Refusal::NoBlock as u8;
 
-pub const WIDE: u8 = 9;
+pub const NO_MESSAGE: u8 = Refusal::NoMessage as u8;
 
-pub const BARRED: u8 = 10;
+pub const WIDE: u8 = Refusal::Wide as u8;
 
-pub const TRUSTED_SENDER: u8 = 11;
+pub const BARRED: u8 = Refusal::Barred as u8;
 
-pub const ACTED: u8 = 12;
+pub const TRUSTED_SENDER: u8 = Refusal::TrustedSender as u8;
 
-pub const NOT_LEADER: u8 = 13;
+pub const ACTED: u8 = Refusal::Acted as u8;
 
-pub const LEADER_VOTES: u8 = 14;
+pub const NOT_LEADER: u8 = Refusal::NotLeader as u8;
 
-pub const NOT_IN_HAND: u8 = 15;
+pub const LEADER_VOTES: u8 = Refusal::LeaderVotes as u8;
 
-pub const KIND: u8 = 16;
+pub const NOT_IN_HAND: u8 = Refusal::NotInHand as u8;
 
-pub const OFF_EPOCH: u8 = 17;
+pub const KIND: u8 = Refusal::Kind as u8;
 
-pub const ENTERED: u8 = 18;
+pub const OFF_EPOCH: u8 = Refusal::OffEpoch as u8;
 
-pub const NOT_LONGEST: u8 = 19;
+pub const ENTERED: u8 = Refusal::Entered as u8;
 
-pub const EPOCHS: u8 = 20;
+pub const NOT_LONGEST: u8 = Refusal::NotLongest as u8;
 
-pub const NOT_FINAL: u8 = 21;
+pub const EPOCHS: u8 = Refusal::Epochs as u8;
 
-pub const FORGED: u8 = 22;
+pub const NOT_FINAL: u8 = Refusal::NotFinal as u8;
 
-pub const NOT_SENT: u8 = 23;
+pub const FORGED: u8 = Refusal::Forged as u8;
 
-pub const SPENT: u8 = 24;
+pub const NOT_SENT: u8 = Refusal::NotSent as u8;
 
-pub const BLOCKS_FULL: u8 = 25;
+pub const SPENT: u8 = Refusal::Spent as u8;
 
-pub const MESSAGES_FULL: u8 = 26;
+pub const BLOCKS_FULL: u8 = Refusal::BlocksFull as u8;
 
-pub const BEHIND: u8 = 32;
+pub const MESSAGES_FULL: u8 = Refusal::MessagesFull as u8;
+
+pub const BEHIND: u8 = Refusal::Behind as u8;
 
 // All of them, in the order of their table.
 pub fn numbers() -> [u8; 27]

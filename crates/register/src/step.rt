@@ -1,7 +1,7 @@
 use crate::sorts::{Block, Epoch, Kind, Message, Office};
 
 // A step, with its fields in the order of the packed log.
-#[derive(Clone, Copy)]
+#[derive(Clone, Copy, PartialEq, Eq, Debug)]
 pub enum Step {
     // office, parent, payload
     Propose(Office, Block, u16),

@@ -1,16 +1,8 @@
-use crate::limits::{BATCH, BLOCKS, EPOCHS, MESSAGES, OFFICES};
-use crate::sorts::{Block, Epoch, Kind, Office};
-
-// What a block is made of.
-#[derive(Clone, Copy)]
-pub struct Header {
-    pub parent: Block,
-    pub epoch: Epoch,
-    pub payload: u16,
-}
+use crate::limits::{BATCH, EPOCHS, OFFICES};
+use tables::{Block, Blocks, Epoch, Kind, Messages, Office};
 
 // What a message says.
-#[derive(Clone, Copy)]
+#[derive(Clone, Copy, PartialEq, Eq, Debug)]
 pub struct Content {
     pub kind: Kind,
     pub signer: Office,
@@ -18,12 +10,13 @@ pub struct Content {
 }
 
 // What one office holds beside its view and its mark: its final block.
-#[derive(Clone, Copy)]
+#[derive(Clone, Copy, PartialEq, Eq, Debug)]
 pub struct OfficeState {
     pub finalised: Block,
 }
 
-// The register that the offices share. Any values make a register that each call takes.
+// The register that the offices share. Any values make a register that each call takes, so it has no invariant. Its tables are arrays with a count beside
+// them: there is no heap. It has no equality, since no rule compares two.
 #[derive(Clone, Copy)]
 pub struct Register {
     // how many offices there are
@@ -36,27 +29,18 @@ pub struct Register {
     pub leaders: [Office; EPOCHS],
     // the current epoch
     pub epoch: Epoch,
-    // the last block made, 0 where there is genesis alone
-    pub last: Block,
-    // each block's parent, epoch and payload, at the block's number; entry 0 counts for nothing
-    pub parents: [Block; BLOCKS],
-    pub epochs: [Epoch; BLOCKS],
-    pub payloads: [u16; BLOCKS],
-    // how many messages have been sent
-    pub count: u16,
-    // for each message, at its number: whether it is a vote, its signer, and the block that it is about
-    pub votes: [bool; MESSAGES],
-    pub signers: [Office; MESSAGES],
-    pub about: [Block; MESSAGES],
-    // for each message a word in base 4, whose digit q is the message's stage for office q
-    pub places: [u64; MESSAGES],
+    // the blocks that were made
+    pub blocks: Blocks,
+    // the messages that were sent
+    pub messages: Messages,
     // the offices that have acted in this epoch: bit q for office q
     pub acted: u32,
     // what each office holds, at its number
     pub offices: [OfficeState; OFFICES],
 }
 
-// What opening gives: the fresh register and 0, or a register without offices and the refusal.
+// What opening gives: the fresh register and 0, or a register without offices and the refusal. The refusal is a number here and in the next three by a rule
+// of the project: makers are given the document's numbers, 0 for none, and a value in each case. None of the four is compared.
 #[derive(Clone, Copy)]
 pub struct Opened {
     pub register: Register,
@@ -71,7 +55,8 @@ pub struct Stepped {
     pub value: u16,
 }
 
-// What a batch of steps gives: the register after them, and the refusal and the value of each at its place.
+// What a batch of steps gives: the register after them, and the refusal and the value of each at its place, in two columns, of which `ran` of the specs
+// speaks by these names.
 #[derive(Clone, Copy)]
 pub struct Ran {
     pub register: Register,
@@ -79,7 +64,8 @@ pub struct Ran {
     pub values: [u16; BATCH],
 }
 
-// What a batch of steps answers, where the register is changed in place: the refusal and the value of each step at its place.
+// What a batch of steps answers, where the register is changed in place: the refusal and the value of each step at its place. It is `Ran` without the
+// register: a stack with little room is not to hold a second one.
 #[derive(Clone, Copy)]
 pub struct Answers {
     pub refusals: [u8; BATCH],
@@ -87,7 +73,8 @@ pub struct Answers {
 }
 
 // What the notarised test tells of a block in an office's view: whether it is notarised there, and how many different offices signed it.
-#[derive(Clone, Copy)]
+// It is makers' own type beside `SignerCount` of `quorum`: see there.
+#[derive(Clone, Copy, PartialEq, Eq, Debug)]
 pub struct Notarised {
     pub holds: bool,
     pub signers: u8,

@@ -11,9 +11,8 @@ use Rattle.words.specs.Tests.{choose}
 use Rattle.register.specs.declared.step.Step.{Step}
 use Rattle.packed_log.specs.declared.item.Item.{Item}
 use Rattle.packed_log.specs.declared.item.Read.{Read}
-use Rattle.packed_log.specs.declared.item.Skipped.{Skipped}
 use Rattle.packed_log.specs.declared.opening.Opening.{Opening}
-use Rattle.packed_log.specs.Items.{left, kind_at, skipped_at, with_fields, item_at}
+use Rattle.packed_log.specs.Items.{Skipped, left, kind_at, skipped_at, with_fields, item_at}
 use Rattle.packed_log.specs.Openings.{opening_in}
 use Rattle.packed_log.specs.Logs.{ReadsFrom}
 use Rattle.packed_log.proofs.ItemLaws.{Outcome, refused, ended, stepped, outcome}

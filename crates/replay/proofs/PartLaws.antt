@@ -1,10 +1,10 @@
 -- Parts: gathering one step after the other, up to a whole part, and what a part is for.
 use Prim.Native.Nat.{ℕ, zero, suc, ◌+◌, ◌-◌, ◌≤◌, ◌<◌, min}
 use mathlib.Core.Path.{◌≡◌, refl, sym, ap, ◌∙◌}
-use mathlib.Core.List.{List, [], ◌∷◌, ◌++◌, append-nil, append_assoc, map, map-append, map-map, map-id}
+use mathlib.Core.List.{List, [], ◌∷◌, ◌++◌, append-nil, append_assoc}
 use mathlib.Core.Logic.{◌⊎◌, inl, inr}
 use native.Mathlib.Omega.{arith}
-use lib.ListN.{length, take, drop, set, replicate, length-append, length-drop, length-map}
+use lib.ListN.{length, take, drop, set, replicate, length-append, length-drop}
 use lib.Seq.{length-take-le, take_at, drop-cons, set_at}
 use Rattle.register.specs.Limits.{batch}
 use Rattle.register.specs.declared.step.Step.{Step}
@@ -14,18 +14,17 @@ use Rattle.register.specs.Runs.{ran}
 use Rattle.packed_log.specs.declared.item.Item.{Item}
 use Rattle.packed_log.specs.declared.item.Read.{Read}
 use Rattle.packed_log.specs.Items.{item_at}
-use Rattle.replay.specs.declared.body.Slot.{Slot}
 use Rattle.replay.specs.declared.body.Part.{Part}
 use Rattle.replay.specs.Bodies.{Body, begun, body_at}
-use Rattle.replay.specs.Parts.{steps_of, slots_of, behind, part_at}
+use Rattle.replay.specs.Parts.{filled, behind, part_at}
 use Rattle.replay.proofs.BodyLaws.{body_begins}
 
--- what is gathered from position p on: some steps, in slots, with the rest of the body behind them
+-- what is gathered from position p on: some steps, in a batch, with the rest of the body behind them
 pub record Gathered (log : List ℕ) (p : ℕ) (part : Part) : Type 0 where
   pub steps : List Step
   pub few : length steps ≤ batch
   pub count : part.count ≡ length steps
-  pub slots : part.slots ≡ slots_of steps
+  pub steps_are : part.steps ≡ filled steps
   pub next : part.next ≡ behind log p (length steps)
   pub body : (body_at log p).steps ≡ steps ++ (body_at log part.next).steps
 
@@ -34,24 +33,23 @@ all_there : (ss rest : List Step) → length ss ≤ batch → (length ss ≡ bat
 all_there ss rest few (inl all) = simp length-append (omega arith)
 all_there ss rest few (inr none) = rw (none, append-nil) (omega arith)
 
--- a step that is put into the next slot comes behind the others
-slot_put : (ss : List Step) (s : Step) → length ss < batch → set (slots_of ss) (length ss) (record { step = s }) ≡ slots_of (ss ++ s ∷ [])
-unfolding slots_of
-slot_put ss s less =
+-- a step that is put at the next place of a batch comes behind the others
+next_put : (ss : List Step) (s : Step) → length ss < batch → set (filled ss) (length ss) s ≡ filled (ss ++ s ∷ [])
+unfolding filled
+next_put ss s less =
     let one_less : batch - length ss ≡ suc (batch - length (ss ++ s ∷ [])) = simp length-append (omega arith) in
-    let slot : Step → Slot = λ x. record { step = x } in
-    rw one_less (simp (map-append, append_assoc) (set_at (map slot ss) _ _ _ _ (length-map ss slot)))
+    rw one_less (simp append_assoc (set_at ss _ _ _ _ refl))
 
 module _ (log : List ℕ) (p : ℕ) where
   -- nothing gathered yet
-  pub gathered_none : Gathered log p (record { slots = replicate batch (record { step = Step.Advance }); count = 0; next = p })
-  unfolding slots_of behind
-  gathered_none = record { steps = []; few = omega arith; count = refl; slots = refl; next = refl; body = refl }
+  pub gathered_none : Gathered log p (record { steps = replicate batch Step.Advance; count = 0; next = p })
+  unfolding filled behind
+  gathered_none = record { steps = []; few = omega arith; count = refl; steps_are = refl; next = refl; body = refl }
 
   -- one step more
   pub gathered_step : (part : Part) (step : Step) (read : Read) → Gathered log p part → part.count < batch → read ≡ item_at log part.next
       → body_at log part.next ≡ begun (Item.Step step) (body_at log read.next)
-      → Gathered log p (record { slots = set part.slots part.count (record { step = step }); count = part.count + 1; next = read.next })
+      → Gathered log p (record { steps = set part.steps part.count step; count = part.count + 1; next = read.next })
   unfolding behind begun
   gathered_step part step read so_far less here one =
       let ss : List Step = so_far.steps in
@@ -60,7 +58,7 @@ module _ (log : List ℕ) (p : ℕ) where
         steps = ss ++ step ∷ [];
         few = omega (arith, so_far.count);
         count = omega (arith, so_far.count);
-        slots = rw (so_far.slots, so_far.count) (slot_put ss step (omega (arith, so_far.count)));
+        steps_are = rw (so_far.steps_are, so_far.count) (next_put ss step (omega (arith, so_far.count)));
         next = rw (here, more, so_far.next);
         body = so_far.body ∙ rw (one, append_assoc);
       }
@@ -72,7 +70,7 @@ module _ (log : List ℕ) (p : ℕ) where
       let ss : List Step = so_far.steps in
       let front : take (length ss) (body_at log p).steps ≡ ss = rw so_far.body (take_at ss _ (length ss) refl) in
       let all : length ss ≡ min batch (length (body_at log p).steps) = rw so_far.body (all_there ss _ so_far.few (rw so_far.count at whole)) in
-      rw (← all, front) (λ i. record { slots = so_far.slots i; count = so_far.count i; next = so_far.next i })
+      rw (← all, front) (λ i. record { steps = so_far.steps_are i; count = so_far.count i; next = so_far.next i })
 
 -- an item in front is passed over
 passed : (item : Item) (rest : Body) (ss : List Step) (k : ℕ) → (begun item rest).steps ≡ drop k ss → k < length ss → rest.steps ≡ drop (suc k) ss
@@ -105,11 +103,10 @@ module _ (log : List ℕ) (p : ℕ) (part : Part) (read : part ≡ part_at log p
   part_fewer some = rw (part_rest, length-drop) (omega (arith, part_count))
 
   -- the batch of a part's steps, run, gives what the body's first steps give
-  pub part_ran : (r : Register) (filled : List Step) (given : Ran) → filled ≡ steps_of part.slots
-      → given ≡ ran r (take (min part.count batch) filled) → given ≡ ran r (take part.count (body_at log p).steps)
-  unfolding part_at steps_of slots_of
-  part_ran r filled given holds runs =
+  pub part_ran : (r : Register) (given : Ran) → given ≡ ran r (take (min part.count batch) part.steps) → given ≡ ran r (take part.count (body_at log p).steps)
+  unfolding part_at filled
+  part_ran r given runs =
       let count : ℕ = min batch (length (body_at log p).steps) in
       let ss : List Step = take count (body_at log p).steps in
       let long : length ss ≡ min count batch = length-take-le count (body_at log p).steps (omega arith) ∙ omega arith in
-      runs ∙ rw (holds, read) (simp (map-map, map-id) (ap (ran r) (take_at ss _ _ long)))
+      runs ∙ rw read (ap (ran r) (take_at ss _ _ long))

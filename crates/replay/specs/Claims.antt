@@ -2,8 +2,7 @@
 -- back, some office is trusted, and running it ends at its last place.
 use Rattle.std.specs.Prelude.{ℕ, ◌≤◌, ◌<◌, ◌≡◌, List, length, take}
 use Rattle.words.specs.Sums.{tally}
-use Rattle.register.specs.declared.sorts.Office.{Office}
-use Rattle.register.specs.declared.sorts.Block.{Block}
+use Rattle.register.specs.Types.{Office, Block}
 use Rattle.register.specs.declared.table.Register.{Register}
 use Rattle.register.specs.Limits.{most_offices}
 use Rattle.register.specs.Books.{book_of}

@@ -4,12 +4,13 @@ ghost use Rattle.register.specs.Runs.{after_steps};
 ghost use Rattle.replay.specs.Bodies.{body_at};
 ghost use Rattle.replay.specs.Endings.{end_of};
 
-use crate::body::{fault_of, read_part, steps_of};
+use crate::body::{fault_of, read_part};
 use packed_log::read_opening;
 use register::Register;
 
 // What running a log gives: the register behind its last step and 0; or, where the log does not read, a register without offices and the number
-// that the log is refused with.
+// that the log is refused with. It is a number, and a register in each case, by a rule of the project: makers are given the document's numbers. It has no
+// equality, as `Register` has none.
 #[derive(Clone, Copy)]
 pub struct Ended {
     pub register: Register,
@@ -28,9 +29,7 @@ fn run_from(log: &[u8], from: usize, register: Register) -> Register
         if count == 0 {
             break;
         }
-        let slots = part.slots;
-        let ran = current.run(steps_of(slots), count);
-        current = ran.register;
+        current.run_on(part.steps, count);
         at = part.next;
     }
     current
@@ -48,9 +47,8 @@ pub fn run_log(log: &[u8]) -> Ended
             refusal,
         };
     }
-    let fresh = opening.register;
     Ended {
-        register: run_from(log, opening.next, fresh),
+        register: run_from(log, opening.next, opening.register),
         refusal,
     }
 }

@@ -8,7 +8,7 @@ use native.Mathlib.Omega.{arith}
 use lib.ListN.{length, get_or, take, drop, length-drop, length-map, take-append-drop, get_or-append, get_or-map}
 use lib.Seq.{take-suc, take_all, length-take-le}
 use Rattle.words.specs.Tests.{choose}
-use Rattle.register.specs.declared.sorts.Block.{Block}
+use Rattle.register.specs.Types.{Block}
 use Rattle.register.specs.declared.step.Step.{Step}
 use Rattle.register.specs.declared.table.Register.{Register}
 use Rattle.register.specs.declared.table.Stepped.{Stepped}

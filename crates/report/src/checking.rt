@@ -5,14 +5,14 @@ ghost use Rattle.report.specs.Text.{TextWritten};
 ghost use Rattle.report.specs.Reports.{fault_line, report_of, report_bound, given_length, buffer_after};
 
 use crate::run::write_run;
-use crate::text::{clear, write_empty_line, write_log_line};
+use crate::text::{write_empty_line, write_log_line};
 use packed_log::read_opening;
 use replay::body::fault_of;
 
 // No report is longer than that of the longest log may be: 34 bytes for each of its 65,536 bytes, and 704 for the offices.
 pub const LONGEST_REPORT: usize = 2228928;
 
-// The report's length where it fits; else 0, and the buffer is all zero.
+// The report's length where it fits; else 0, and the buffer is all zero: so C is answered, and `check` too.
 fn fitted(report: &mut [u8], size: usize) -> usize
     ensures { (result ≡ choose (leb size (length report.old)) size 0)
         × (report.new ≡ choose (leb size (length report.old)) report.old (replicate (length report.old) 0)) }
@@ -20,11 +20,11 @@ fn fitted(report: &mut [u8], size: usize) -> usize
     if size <= report.len() {
         return size;
     }
-    clear(report);
+    report.fill(0);
     0
 }
 
-// Writes the one line of a log that does not read: the word `empty` where it has no bytes, else its number.
+// Writes the one line of a log that does not read: the word `empty` where it has no bytes, else its number, as `Opening` has it.
 fn write_fault_line(report: &mut [u8], log: &[u8], fault: u8) -> usize
     ensures { TextWritten report.old 0 (fault_line log.now fault) result report.new
         × (result ≤ report_bound (length log.now)) }
@@ -35,7 +35,7 @@ fn write_fault_line(report: &mut [u8], log: &[u8], fault: u8) -> usize
     write_log_line(report, 0, fault)
 }
 
-// Writes the report of a log.
+// Writes the report of a log. Like `write_fault_line` and `write_run` it hands on the bound that `check` promises.
 fn write_report(report: &mut [u8], log: &[u8]) -> usize
     ensures { TextWritten report.old 0 (report_of log.now) result report.new
         × (result ≤ report_bound (length log.now)) }
@@ -45,11 +45,10 @@ fn write_report(report: &mut [u8], log: &[u8]) -> usize
     if fault != 0 {
         return write_fault_line(report, log, fault);
     }
-    let register = opening.register;
-    write_run(report, log, opening.next, register)
+    write_run(report, log, opening.next, opening.register)
 }
 
-// Checks a log, writes the report into the buffer and gives its length. Where it does not fit, that is 0, and the buffer is all zero. The
+// Checks a log, writes the report into the buffer and gives its length. Where it does not fit, that is 0, as C gets it, and the buffer is all zero. The
 // report of a log of n bytes has at most 34 × n + 704 bytes, and none more than LONGEST_REPORT.
 pub fn check(log: &[u8], report: &mut [u8]) -> usize
     ensures { (result ≡ given_length log.now report.old)

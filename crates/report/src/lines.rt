@@ -9,7 +9,8 @@ use crate::text::{write_office_line, write_step_line};
 use register::limits::BATCH;
 use register::{Office, Register};
 
-// Writes the lines of the first `count` answers of a batch, whose places are counted on from `place`.
+// Writes the lines of the first `count` answers of a batch, whose places are counted on from `place`. Refusals and values are the two columns of `Answers`,
+// which are whole whatever the count.
 pub(crate) fn write_batch<'a>(
     report: &mut [u8],
     at: usize,
@@ -23,18 +24,16 @@ pub(crate) fn write_batch<'a>(
         × (result ≤ at + step_bytes * count) }
 {
     let mut next = at;
-    let mut i = 0;
-    while i < count {
+    for i in 0..count {
         next = write_step_line(report, next, place + i, refusals[i], values[i]);
-        i += 1;
     }
     next
 }
 
 // Writes the line of a trusted office; nothing for any other.
-fn write_office(report: &mut [u8], at: usize, register: Register, q: u8) -> usize
+fn write_office(report: &mut [u8], at: usize, register: &Register, q: u8) -> usize
     requires { (q < 32) × (at ≤ 2 ^ 31) }
-    ensures { TextWritten report.old at (office_text register q) result report.new × (result ≤ at + office_bytes) }
+    ensures { TextWritten report.old at (office_text register.now q) result report.new × (result ≤ at + office_bytes) }
 {
     if !register.is_trusted(Office(q)) {
         return at;
@@ -46,15 +45,13 @@ fn write_office(report: &mut [u8], at: usize, register: Register, q: u8) -> usiz
 }
 
 // Writes the lines of the trusted offices, ascending.
-pub(crate) fn write_offices(report: &mut [u8], at: usize, register: Register) -> usize
+pub(crate) fn write_offices(report: &mut [u8], at: usize, register: &Register) -> usize
     requires { at ≤ 2 ^ 30 }
-    ensures { TextWritten report.old at (office_lines register 32) result report.new × (result ≤ at + 32 * office_bytes) }
+    ensures { TextWritten report.old at (office_lines register.now 32) result report.new × (result ≤ at + 32 * office_bytes) }
 {
     let mut next = at;
-    let mut q = 0;
-    while q < 32 {
+    for q in 0..32 {
         next = write_office(report, next, register, q);
-        q += 1;
     }
     next
 }

@@ -6,7 +6,7 @@ ghost use Rattle.report.specs.Reports.{run_lines, report_bound};
 
 use crate::lines::{write_batch, write_offices};
 use register::Register;
-use replay::body::{read_part, steps_of};
+use replay::body::read_part;
 
 // Writes the lines of the steps that stand from position `from` on, run from that register, and then those of the offices.
 pub(crate) fn write_run(report: &mut [u8], log: &[u8], from: usize, register: Register) -> usize
@@ -23,8 +23,7 @@ pub(crate) fn write_run(report: &mut [u8], log: &[u8], from: usize, register: Re
         if count == 0 {
             break;
         }
-        let slots = part.slots;
-        let answers = current.run_on(steps_of(slots), count);
+        let answers = current.run_on(part.steps, count);
         next = write_batch(
             report,
             next,
@@ -36,5 +35,5 @@ pub(crate) fn write_run(report: &mut [u8], log: &[u8], from: usize, register: Re
         place += count;
         at = part.next;
     }
-    write_offices(report, next, current)
+    write_offices(report, next, &current)
 }

@@ -1,6 +1,8 @@
 // Text written into a lent buffer from a position on, and the position behind it. A byte past the buffer's end is dropped, and the position
-// is counted on all the same.
-ghost use Rattle.std.specs.Prelude.{◌≡◌, ◌+◌, ◌^◌, ◌≤◌, ◌<◌, ◌∷◌, [], length, replicate, set};
+// is counted on all the same. Buffer and position stay two: a contract of a struct of both would still name each before and after, as `TextWritten` does, once
+// for each text. A text is bytes, as the buffer is, and a refusal the number that the line has. A bound on the position keeps it from running over; it is
+// another for each length of text.
+ghost use Rattle.std.specs.Prelude.{◌≡◌, ◌+◌, ◌^◌, ◌≤◌, ◌<◌, ◌∷◌, [], length, set};
 ghost use Rattle.report.specs.Text.{TextWritten, decimal, number_then, numbers, step_line, office_line, step_bytes, office_bytes, log_line, empty_line};
 
 // Writes one byte.
@@ -14,44 +16,26 @@ fn put(report: &mut [u8], at: usize, byte: u8) -> usize
     at + 1
 }
 
-// Makes every byte of the buffer 0.
-pub(crate) fn clear(report: &mut [u8])
-    ensures { report.new ≡ replicate (length report.old) 0 }
-{
-    let mut i = 0;
-    while i < report.len() {
-        i = put(report, i, 0);
-    }
-}
-
 // Writes a word.
 fn write_word(report: &mut [u8], at: usize, word: &[u8]) -> usize
     requires { at + length word.now < 2 ^ 64 }
     ensures { TextWritten report.old at word.now result report.new }
 {
     let mut next = at;
-    let mut i = 0;
-    while i < word.len() {
-        next = put(report, next, word[i]);
-        i += 1;
+    for byte in word {
+        next = put(report, next, *byte);
     }
     next
 }
 
-// How many digits a number has: it is compared with the powers of ten, up to the greatest that fits into 64 bits.
+// How many digits a number has.
 fn digits_of(n: usize) -> usize
     ensures { (result ≡ length (decimal n)) × (result ≤ 20) }
 {
-    let mut size = 1;
-    let mut power = 10;
-    while power <= n {
-        if size == 19 {
-            return 20;
-        }
-        power *= 10;
-        size += 1;
+    if n == 0 {
+        return 1;
     }
-    size
+    n.ilog10() as usize + 1
 }
 
 // Puts one digit at its place.

@@ -1,17 +1,16 @@
 // Slips about whole logs, as skovarnek_slip_c gives them to C: see include/skovarnek_slip.h.
 #![tactic(auto)]
 
-ghost use Rattle.std.specs.Prelude.{◌≡◌, ◌%◌, ◌≤◌};
+ghost use Rattle.std.specs.Prelude.{◌≡◌, ◌^◌, ◌%◌, ◌≤◌, ◌<◌};
 ghost use Rattle.skovarnek_slip.specs.Answers.{answer_of, slip_checked, slip_written, slip_after};
 
 use register::{Block, Office};
 use replay::run_log;
 use slip::{check_slip, write_slip};
 
-// A refusal and a value in one number: the value in the lower 16 bits.
-fn answer(refusal: u8, value: usize) -> u32
-    requires { value ≤ 65535 }
-    ensures { result ≡ answer_of refusal value }
+// A refusal and a value in one number, since that is what C gets: the value in the lower 16 bits, the refusal in the 8 above them.
+pub fn answer(refusal: u8, value: u16) -> u32
+    ensures { (result ≡ answer_of refusal value) × (result < 2 ^ 24) }
 {
     value as u32 + 65536 * refusal as u32
 }
@@ -24,9 +23,8 @@ pub fn skovarnek_slip_check(log: &[u8], slip: &[u8]) -> u32
     if end.refusal != 0 {
         return answer(end.refusal, 0);
     }
-    let register = end.register;
-    let checked = check_slip(register, slip);
-    answer(checked.refusal, checked.block.0 as usize)
+    let checked = check_slip(end.register, slip);
+    answer(checked.refusal, checked.block.0 as u16)
 }
 
 // Runs the log and writes a slip about that block from that office's view: the length of the slip, or the refusal times 65,536; then no byte is
@@ -40,7 +38,6 @@ pub fn skovarnek_slip_write(log: &[u8], office: u8, block: u8, slip: &mut [u8]) 
     if end.refusal != 0 {
         return answer(end.refusal, 0);
     }
-    let register = end.register;
-    let written = write_slip(register, Office(office), Block(block), slip);
-    answer(written.refusal, written.length)
+    let written = write_slip(end.register, Office(office), Block(block), slip);
+    answer(written.refusal, written.length as u16)
 }

@@ -1,4 +1,4 @@
-// Slips as calls for C, those of skovarnek_slip: see include/skovarnek_slip.h.
+// Slips as calls for C, those of skovarnek_slip under its names: see include/skovarnek_slip.h. Each hands on what C gives, so the two stand twice.
 #![tactic(auto)]
 
 ghost use Rattle.std.specs.Prelude.{◌≡◌, ◌%◌, ◌≤◌};

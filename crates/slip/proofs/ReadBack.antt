@@ -15,14 +15,13 @@ use Rattle.words.specs.Tests.{choose, either, every, member}
 use Rattle.words.specs.Sums.{tally}
 use Rattle.words.specs.Digits.{in_set}
 use Rattle.words.specs.Refusals.{first}
-use Rattle.words.proofs.Tests.{clash, both_left, both_right, both_make, either_cases}
-use Rattle.words.proofs.Tests.{implies, all_make, every_same}
+use Rattle.words.proofs.Tests.{clash, both_left, both_right, both_make, either_cases, implies, all_make, every_same}
 use Rattle.words.proofs.Sums.{tally_ext, tally_below}
 use Rattle.words.proofs.Clearing.{clear}
 use Rattle.words.proofs.Refusals.{first_before}
 use Rattle.words.proofs.Turns.{skip, none as nothing}
 use Rattle.tables.proofs.Chains.{parent_in_lt, climb_induction}
-use Rattle.register.specs.declared.book.Book.{Book}
+use Rattle.register.specs.Types.{Book}
 use Rattle.register.specs.Books.{block, book_of}
 use Rattle.register.specs.Tables.{parent_of}
 use Rattle.register.specs.Views.{signed, signers, signer_set, notarised}

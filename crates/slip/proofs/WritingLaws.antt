@@ -10,6 +10,9 @@ use borrow.Author.Tests.{le-leb, lt-ltb, le-ltb, ltb-false, ne_eqb, not-false}
 use lib.Dec.{ltb}
 use lib.ListN.{length, get_or, take, drop, replicate, length-append, length-take, length-replicate, take-append-drop, get_or-append}
 use lib.Seq.{get_or_at, get_or-drop, ext_get_or, length-take-le}
+use Rattle.std.specs.Prelude.{Result, Ok, Err}
+use Rattle.refusals.specs.declared.Refusal.{Refusal}
+use Rattle.refusals.specs.Numbers.{outcome}
 use Rattle.words.specs.Tests.{choose, both}
 use Rattle.words.specs.Digits.{in_set}
 use Rattle.words.specs.Refusals.{◌⇒◌, first}
@@ -20,7 +23,7 @@ use Rattle.words.proofs.Turns.{hit, skip, none as nothing}
 use Rattle.tables.specs.Chains.{chain_by}
 use Rattle.tables.specs.Searches.{view_in}
 use Rattle.tables.proofs.Chains.{Down, parent_in_lt, chain_by_genesis, chain_by_step, climb_induction}
-use Rattle.register.specs.declared.book.Book.{Book}
+use Rattle.register.specs.Types.{Book}
 use Rattle.register.specs.Tables.{trusted, parent_of}
 use Rattle.register.specs.Views.{signed, signs, signer_set}
 use Rattle.register.specs.Chains.{chain}
@@ -234,6 +237,11 @@ allowed r q b none =
       trusts = not-false _ tests.1.1.1.0;
       final = not-false _ tests.1.1.1.1.0;
     }
+
+-- an outcome that is no refusal has the number 0
+pub not_refused : (o : Result Unit Refusal) → ((refusal : Refusal) → o ≡ Err refusal → ⊥) → outcome o ≡ 0
+not_refused (Ok done) other = refl
+not_refused (Err refusal) other = absurd (other refusal refl)
 
 module _ (r : Book) (q b : ℕ) (l : List ℕ) where
   -- what a call of the writer promises: its answer, the buffer after it, and the most bytes that a slip takes

@@ -1,7 +1,6 @@
 -- What whoever hands slips on may rely on.
 use Rattle.std.specs.Prelude.{ℕ, ◌≡◌, List, take}
-use Rattle.register.specs.declared.sorts.Office.{Office}
-use Rattle.register.specs.declared.sorts.Block.{Block}
+use Rattle.register.specs.Types.{Office, Block}
 use Rattle.register.specs.declared.table.Register.{Register}
 use Rattle.register.specs.Books.{block, book_of}
 use Rattle.register.specs.Tables.{parent_of}

@@ -4,17 +4,19 @@ ghost use Rattle.words.specs.Tests.{both};
 ghost use Rattle.packed_log.specs.Items.{padded};
 ghost use Rattle.slip.specs.Slips.{block_in};
 
+use register::Block;
+
 // A block is named in so many bits.
 pub(crate) const BLOCK_WIDTH: usize = 8;
 
 // The block that the slip names; genesis where it has no byte.
-pub(crate) fn block_in(slip: &[u8]) -> u8
-    ensures { result ≡ block_in slip.now }
+pub(crate) fn block_in(slip: &[u8]) -> Block
+    ensures { result.0 ≡ block_in slip.now }
 {
-    if slip.len() == 0 {
-        return 0;
+    match slip.first() {
+        Some(byte) => Block(*byte),
+        None => Block(0),
     }
-    slip[0]
 }
 
 // How many bits a slip has before its pad, about a chain of that length.
@@ -30,7 +32,7 @@ pub(crate) fn bytes_due(bits: usize) -> usize
     requires { bits ≤ 8168 }
     ensures { result ≡ (bits + 7) / 8 }
 {
-    (bits + 7) / 8
+    bits.div_ceil(8)
 }
 
 // The slip has so many bits, behind them zero bits to the byte's end, and no byte more.

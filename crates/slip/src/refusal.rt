@@ -1,4 +1,6 @@
-// The numbers of refusal that slips bring; the others are those of the register and of the packed log.
-pub const SLIP_FORM: u8 = 33;
+// The numbers of refusal that slips bring, under which makers know them, a rule of the project; the others are those of the register and the packed log.
+use refusals::Refusal;
 
-pub const UNSIGNED_MARK: u8 = 34;
+pub const SLIP_FORM: u8 = Refusal::SlipForm as u8;
+
+pub const UNSIGNED_MARK: u8 = Refusal::UnsignedMark as u8;

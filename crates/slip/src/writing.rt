@@ -1,8 +1,10 @@
 // Writing a slip from a trusted office's view.
 ghost use Rattle.std.specs.Prelude.{◌≡◌, ◌++◌, false, ◌+◌, ◌*◌, ◌-◌, ◌/◌, ◌≤◌, length, replicate};
+ghost use Rattle.refusals.specs.Numbers.{number_of, outcome};
 ghost use Rattle.words.specs.Refusals.{first};
 ghost use Rattle.tables.specs.Blocks.{parent_in};
 ghost use Rattle.tables.specs.Chains.{chain_by};
+ghost use Rattle.tables.specs.Columns.{parents_of};
 ghost use Rattle.register.specs.Books.{book_of};
 ghost use Rattle.packed_log.specs.Bits.{to_bits, put};
 ghost use Rattle.slip.specs.Writing.{rule_tests, written, buffer_after};
@@ -10,96 +12,74 @@ ghost use Rattle.slip.specs.Rows.{rows_in};
 
 use crate::form::{BLOCK_WIDTH, bits_due, bytes_due};
 use crate::rows::rows_of;
-use register::limits::BLOCKS;
-use register::{Block, Book, Office, Register};
+use refusals::Refusal;
+use register::{Block, Blocks, Office, Register};
 use tables::View;
 
-// What writing a slip gives: 0 and its length in bytes, or the refusal and 0.
-#[derive(Clone, Copy)]
+// What writing a slip gives: 0 and its length in bytes, or the refusal and 0. Makers get the one number of the table of refusals, as C does.
+#[derive(Clone, Copy, PartialEq, Eq, Debug)]
 pub struct Written {
     pub refusal: u8,
     pub length: usize,
 }
 
-// A slip that is not written.
-fn refused(number: u8) -> Written
-    ensures { result ≡ record { refusal = number; length = 0 } }
+// A slip that is not written. Makers are given the number; `refused` of packed_log makes another type, with other fields.
+fn refused(refusal: Refusal) -> Written
+    ensures { result ≡ record { refusal = number_of refusal; length = 0 } }
 {
     Written {
-        refusal: number,
+        refusal: refusal.number(),
         length: 0,
     }
 }
 
-// The refusal that comes before the buffer is looked at, 0 where there is none.
-fn rule_refusal(book: Book, office: Office, b: Block) -> u8
-    ensures { result ≡ first (rule_tests book office.0 b.0) }
+// The refusal that comes before the buffer is looked at.
+fn check_rule(register: &Register, office: Office, b: Block) -> Result<(), Refusal>
+    ensures { outcome result ≡ first (rule_tests (book_of register.now) office.0 b.0) }
 {
-    if !book.fits() {
-        return register::refusal::UNFIT_REGISTER;
+    if !register.is_fit() {
+        return Err(Refusal::UnfitRegister);
     }
-    let n = book.n;
-    if n <= office.0 {
-        return register::refusal::NO_OFFICE;
+    if register.n <= office.0 {
+        return Err(Refusal::NoOffice);
     }
-    let last = book.last;
-    if last.0 < b.0 {
-        return register::refusal::NO_BLOCK;
+    let blocks = &register.blocks;
+    if blocks.last.0 < b.0 {
+        return Err(Refusal::NoBlock);
     }
-    if !tables::trusted_at(n, book.trust, office.0) {
-        return register::refusal::BARRED;
+    if !register.is_trusted(office) {
+        return Err(Refusal::Barred);
     }
-    let c = Block(tables::parent_at(&book.parents, last.0, b.0));
-    let d = Block(tables::parent_at(&book.parents, last.0, c.0));
-    if !register::are_consecutive(&book.epochs, last, b, c, d) {
-        return register::refusal::NOT_FINAL;
+    let c = blocks.parent(b);
+    let d = blocks.parent(c);
+    if !register::are_consecutive(blocks, b, c, d) {
+        return Err(Refusal::NotFinal);
     }
-    let count = book.count as usize;
-    if !tables::is_notarised_above(
-        n,
-        last.0,
-        count,
-        &book.places,
-        &book.signers,
-        &book.about,
-        &book.parents,
-        &book.epochs,
-        office.0,
-        b.0,
-        0,
-    ) {
-        return register::refusal::NOT_FINAL;
+    if !tables::is_notarised_above(blocks, &register.messages, register.n, office, b, Block(0)) {
+        return Err(Refusal::NotFinal);
     }
-    0
+    Ok(())
 }
 
 // Fills a slip about block b, of just the bytes that are due, with the rows of its chain: the pad, then the rows from the newest on, from the last bit that
 // is due, and the block's number.
-fn lay_slip<'a>(
-    slip: &mut [u8],
-    rows: &'a View,
-    parents: &'a [u8; BLOCKS],
-    last: u8,
-    n: u8,
-    b: u8,
-    due: usize,
-)
-    requires { (n ≤ 32) × (due ≡ 8 + n * length (chain_by (parent_in parents.now last) b)) × (length slip.old ≡ (due + 7) / 8)
-        × (length slip.old ≤ 65536) }
-    ensures { slip.new ≡ put slip.old 0
-        (to_bits 8 b ++ rows_in rows.now n (chain_by (parent_in parents.now last) b)
-        ++ replicate (8 * length slip.old - due) false) }
+fn lay_slip(slip: &mut [u8], rows: &View, blocks: &Blocks, n: u8, b: Block, due: usize)
+    requires { let parent = parent_in (parents_of blocks.now) blocks.now.last.0 in
+        (n ≤ 32) × (due ≡ 8 + n * length (chain_by parent b.0)) × (length slip.old ≡ (due + 7) / 8) × (length slip.old ≤ 65536) }
+    ensures { let parent = parent_in (parents_of blocks.now) blocks.now.last.0 in
+        slip.new ≡ put slip.old 0
+        (to_bits 8 b.0 ++ rows_in rows.now n (chain_by parent b.0) ++ replicate (8 * length slip.old - due) false) }
 {
     let pad = 8 * slip.len() - due;
     packed_log::write_field(slip, due, pad, 0);
     let mut end = due;
     let mut at = b;
-    while at > 0 {
+    while at.0 > 0 {
         end -= n as usize;
-        packed_log::write_field(slip, end, n as usize, rows[at as usize]);
-        at = tables::parent_at(parents, last, at);
+        packed_log::write_field(slip, end, n as usize, rows[at.0 as usize]);
+        at = blocks.parent(at);
     }
-    packed_log::write_field(slip, 0, BLOCK_WIDTH, b as u32);
+    packed_log::write_field(slip, 0, BLOCK_WIDTH, b.0 as u32);
 }
 
 // Writes a slip about block b from the office's view, marking every signature there.
@@ -107,27 +87,17 @@ pub fn write_slip(register: Register, office: Office, b: Block, buf: &mut [u8]) 
     ensures { (result ≡ written (book_of register) office.0 b.0 buf.old)
         × (buf.new ≡ buffer_after (book_of register) office.0 b.0 buf.old) × (result.length ≤ 1021) }
 {
-    let book = register.book();
-    let refusal = rule_refusal(book, office, b);
-    if refusal != 0 {
+    if let Err(refusal) = check_rule(&register, office, b) {
         return refused(refusal);
     }
-    let last = book.last.0;
-    let n = book.n;
-    let due = bits_due(n, tables::length_of(&book.parents, last, b.0));
+    register.know_sizes();
+    let n = register.n;
+    let due = bits_due(n, register.blocks.chain_length(b));
     let length = bytes_due(due);
     if buf.len() < length {
-        return refused(packed_log::refusal::SHORT_BUFFER);
+        return refused(Refusal::ShortBuffer);
     }
-    let signers = book.signers;
-    let rows = rows_of(
-        &book.places,
-        signers,
-        &book.about,
-        book.count as usize,
-        n,
-        office.0,
-    );
-    lay_slip(&mut buf[0..length], &rows, &book.parents, last, n, b.0, due);
-    Written { refusal, length }
+    let rows = rows_of(register.messages, n, office);
+    lay_slip(&mut buf[0..length], &rows, &register.blocks, n, b, due);
+    Written { refusal: 0, length }
 }

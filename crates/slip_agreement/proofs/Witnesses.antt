@@ -11,9 +11,8 @@ use Rattle.quorum.specs.Opening.{untrusted, too_many, stray, opening_refusal}
 use Rattle.tables.specs.Blocks.{trusted_in, made_in, parent_in, epoch_in, matches_in, named_in}
 use Rattle.tables.specs.Messages.{says_in}
 use Rattle.tables.specs.Chains.{climb, chain_by}
-use Rattle.register.specs.declared.book.Book.{Book}
-use Rattle.register.specs.Books.{office, block, book_of, register_of}
-use Rattle.register.specs.Tables.{is_vote}
+use Rattle.register.specs.Types.{Book}
+use Rattle.register.specs.Books.{office, block, is_vote, kind_of, book_of, register_of}
 use Rattle.register.specs.Views.{stage, signed, ever_signed, signer_set, notarised}
 use Rattle.register.specs.Chains.{chain, chain_notarised_by, longest}
 use Rattle.register.specs.Fitness.{counts_fit, block_fits, message_fits, state_fits, fit}
@@ -63,7 +62,7 @@ pub record Slipped : Type 0 where
 
 -- it does, as the rules compute
 pub fork_slips : Slipped
-unfolding Accepts Trusted chain_of moment fork fork_steps after_steps step_rule book_of register_of opened opening fresh opening_refusal untrusted too_many stray choose both either between conj all any lowest every tally weigh unit digit fill set_of with_member with_stage first enough trusted_in made_in parent_in epoch_in matches_in named_in says_in climb chain_by is_vote stage signed ever_signed signer_set notarised chain chain_notarised_by longest counts_fit block_fits message_fits state_fits fit consecutive finalises leader_table blank fresh_book with_block with_named sent_stage with_sent with_moved with_acted with_state with_next_epoch rule_of refusal judged book_rule to_bits num bits pack bytes field put padded office_bits laid marked formed truly marked_enough checked rows_bits front_bits slip_bits written buffer_after
+unfolding Accepts Trusted chain_of moment fork fork_steps after_steps step_rule book_of register_of opened opening fresh opening_refusal untrusted too_many stray choose both either between conj all any lowest every tally weigh unit digit fill set_of with_member with_stage first enough trusted_in made_in parent_in epoch_in matches_in named_in says_in climb chain_by is_vote kind_of stage signed ever_signed signer_set notarised chain chain_notarised_by longest counts_fit block_fits message_fits state_fits fit consecutive finalises leader_table blank fresh_book with_block with_named sent_stage with_sent with_moved with_acted with_state with_next_epoch rule_of refusal judged book_rule to_bits num bits pack bytes field put padded office_bits laid marked formed truly marked_enough checked rows_bits front_bits slip_bits written buffer_after
 fork_slips = record { writes = refl; leaves = refl; not_seen = refl; early = refl; answer = refl; too_few = refl; unsigned = refl; finalist = refl }
 
 -- So slips agree with office 2's final chain at the end of the run, fifteen moments later: of the chains of blocks 4 and 5 one begins the other.

@@ -1,7 +1,6 @@
 -- What is claimed of the slips that are accepted in a run, at whatever moment, by whomever they were written.
 use Rattle.std.specs.Prelude.{ℕ, ◌≤◌, ◌≡◌, List, ◌⊎◌}
-use Rattle.register.specs.declared.sorts.Office.{Office}
-use Rattle.register.specs.declared.sorts.Block.{Block}
+use Rattle.register.specs.Types.{Office, Block}
 use Rattle.register.specs.declared.table.Register.{Register}
 use Rattle.register.specs.Books.{book_of}
 use Rattle.register.specs.Runs.{Run, moment}

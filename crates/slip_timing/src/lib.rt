@@ -1,5 +1,5 @@
-// For measuring only: slips checked and written many times over, with the log read and run once. Of 1 to 2,147,483,647 turns the last answer, and what is then
-// in the buffer, are proved to be those of a single call of skovarnek_slip; makers make that call.
+// For measuring only, from C, which gets one number as from skovarnek_slip: slips checked and written many times over, with the log read and run once. Of 1 to
+// 2,147,483,647 turns the last answer, and what is then in the buffer, are proved to be those of a single call of skovarnek_slip; makers make that call.
 #![tactic(auto)]
 
 ghost use Rattle.std.specs.Prelude.{◌≡◌, ◌^◌, ◌<◌, ◌≤◌, length};
@@ -8,15 +8,8 @@ ghost use Rattle.skovarnek_slip.specs.Answers.{answer_of, slip_checked, slip_wri
 
 use register::{Block, Office};
 use replay::run_log;
+use skovarnek_slip::answer;
 use slip::{check_slip, write_slip};
-
-// A refusal and a value in one number, as skovarnek_slip gives them.
-fn answer(refusal: u8, value: usize) -> u32
-    requires { value ≤ 65535 }
-    ensures { (result ≡ answer_of refusal value) × (result < 2 ^ 24) }
-{
-    value as u32 + 65536 * refusal as u32
-}
 
 // Where the slip of the next turn starts: at its first byte. Every answer is below 2^24, so that of up to 2,147,483,647 turns none has the answer that
 // starts the next elsewhere; but a compiler knows neither the answer nor `times`, and so leaves no turn out.
@@ -28,6 +21,9 @@ fn start_of(last: u32, times: u32, size: usize) -> usize
     }
     0
 }
+
+// The turns of the two calls stand side by side: one function for both would take a closure that writes into the lent buffer, and its contract, which says of
+// any turn what the buffer holds, would be longer than the two loops.
 
 // Checks the slip so many times. The last answer, as skovarnek_slip_check gives it; of no turn 0. A log that does not read takes no turn and brings its
 // refusal.
@@ -42,12 +38,10 @@ pub extern "C" fn slip_timing_check(log: &[u8], slip: &[u8], times: u32) -> u32
     }
     let register = end.register;
     let mut last = 0;
-    let mut turn = 0;
-    while turn < times {
+    for _turn in 0..times {
         let start = start_of(last, times, slip.len());
         let checked = check_slip(register, &slip[start..]);
-        last = answer(checked.refusal, checked.block.0 as usize);
-        turn += 1;
+        last = answer(checked.refusal, checked.block.0 as u16);
     }
     last
 }
@@ -73,12 +67,10 @@ pub extern "C" fn slip_timing_write(
     }
     let register = end.register;
     let mut last = 0;
-    let mut turn = 0;
-    while turn < times {
+    for _turn in 0..times {
         let start = start_of(last, times, slip.len());
         let written = write_slip(register, Office(office), Block(block), &mut slip[start..]);
-        last = answer(written.refusal, written.length);
-        turn += 1;
+        last = answer(written.refusal, written.length as u16);
     }
     last
 }

@@ -1,7 +1,7 @@
 -- The tests that a walk over the columns makes at each entry, and what a caller knows of its answer.
 use Prim.Native.Nat.{ℕ, zero, suc, ◌+◌, ◌-◌, ◌%◌, ◌≤◌, ◌<◌, min}
 use mathlib.Core.Path.{◌≡◌, refl, sym, ◌∙◌}
-use mathlib.Core.Bool.{Bool, true, false, beq, ◌&&◌, ◌||◌}
+use mathlib.Core.Bool.{Bool, true, false, ◌&&◌}
 use mathlib.Core.List.{List}
 use mathlib.Core.Logic.{⊎_elim, inl, inr}
 use native.Mathlib.Omega.{arith}
@@ -13,9 +13,9 @@ use lib.ListN.{length, get_or, get_or-eq_default}
 use Rattle.words.specs.Tests.{choose, both, any}
 use Rattle.words.specs.Digits.{digit}
 use Rattle.words.proofs.Digits.{digit_zero}
-use Rattle.words.proofs.Tests.{and_agree, and_both, any_make, any_next, any_none, both_left, both_right, both_none, either_none, lowest_is, lowest_only}
+use Rattle.words.proofs.Tests.{and_both, any_make, any_none, both_left, both_right, both_none, either_none, lowest_is, lowest_only}
 use Rattle.tables.specs.Blocks.{made_in, epoch_in, matches_in, named_in}
-use Rattle.tables.specs.Messages.{view, says_in, history_in}
+use Rattle.tables.specs.Messages.{view, says_in}
 use Rattle.tables.specs.Searches.{messages, signed_in}
 
 -- a walk by chunks of 64 has come to `from`: a chunk starts there, or all messages that were sent are behind it
@@ -69,16 +69,6 @@ module _ (places signers about : List ℕ) (q s b from : ℕ) where
     unfolding signed_in
     signed_hit few hit = sym (any_make _ (from + size) (from + (left - 1)) (omega arith) (sym e ∙ hit))
 
-    -- where it has not, those before it are left
-    pub unsigned_next : Unsigned left size → t ≡ false → Unsigned (left - 1) size
-    unsigned_next none miss i low l =
-        elim (dec_lt i left) as (λ _. signs places signers about q s b (from + i) ≡ false) [
-          | yes under ↦
-              let here : left - 1 ≡ i = omega arith in
-              sym (rw here at e) ∙ miss
-          | no over ↦ none i (omega arith) l
-        ]
-
 -- a column of places has no entry past its end, so that of all messages those with an entry tell
 pub signed_most : (places signers about : List ℕ) (q s b count : ℕ) → length places ≡ messages
     → signed_in places signers about (min count messages) q s b ≡ signed_in places signers about count q s b
@@ -95,14 +85,6 @@ signed_most places signers about q s b count whole =
           (unsigned_past places signers about q s b messages (count - messages)
           (λ i low l. rw (get_or-eq_default places 0 {n = messages + i} (omega arith), digit_zero 4 q)))
     ]
-
--- one message more of the history
-pub history_next : (votes : List Bool) (signers about : List ℕ) (vote : Bool) (s b m : ℕ) (found mine : Bool)
-    → found ≡ history_in votes signers about m vote s b → mine ≡ says_in signers about s b m
-    → found || (beq (get_or votes m false) vote && mine) ≡ history_in votes signers about (m + 1) vote s b
-unfolding history_in
-history_next votes signers about vote s b m found mine e em =
-    any_next _ m found _ e (and_agree (get_or votes m false) vote mine ∙ rw em)
 
 module _ (parents epochs payloads : List ℕ) (last p e w : ℕ) where
   -- a block has the parent, epoch and payload looked for
@@ -135,16 +117,6 @@ module _ (parents epochs payloads : List ℕ) (last p e w : ℕ) where
 
     -- the test of block b, which passes genesis over
     module _ (t : Bool) (is : t ≡ matches b) where
-      -- past the block where it fails
-      pub unnamed_next : ltb 0 b && t ≡ false → Unnamed (b + 1)
-      unnamed_next miss i some made l =
-          elim (dec_lt i b) as (λ _. matches i ≡ false) [
-            | yes under ↦ below i some made under
-            | no over ↦
-                let here : b ≡ i = omega arith in
-                sym (rw here at is) ∙ rw (lt-ltb 0 b (omega arith)) at miss
-          ]
-
       -- where it holds, the block is the one
       pub named_here : b ≤ last → ltb 0 b && t ≡ true → b ≡ named
       unfolding named_in

@@ -73,14 +73,15 @@ raised_one climbed n false = refl
 pub unmet_above : (at : ℕ) (t : Bool) → either (eqb at 0) t ≡ false → 0 < at
 unmet_above at t more = omega (arith, eqb-false at 0 (either_false_left (eqb at 0) t more))
 
+-- above genesis a climb to genesis goes on
+pub over_genesis : (at : ℕ) → 0 < at → either (eqb at 0) (eqb at 0) ≡ false
+unfolding either
+over_genesis at h = rw (ne_eqb at 0 (omega arith))
+
 -- so many blocks of block b's chain have been climbed, up to block `at`, whose chain is the rest
 pub record Climbed (parent : ℕ → ℕ) (b climbed at : ℕ) : Type 0 where
   pub within : climbed + at ≤ b
   pub rest : climbed + length (chain_by parent at) ≡ length (chain_by parent b)
-
--- nothing of it has been climbed yet
-pub climbed_start : (parent : ℕ → ℕ) (b : ℕ) → Climbed parent b 0 b
-climbed_start parent b = record { within = omega arith; rest = omega arith }
 
 module _ (parent : ℕ → ℕ) (down : Down parent) where
   -- the chain of any block but genesis is one longer than its parent's

@@ -6,7 +6,6 @@ use mathlib.Core.Bool.{Bool, true, false}
 use mathlib.Core.Logic.{⊎_elim}
 use mathlib.Core.List.{List}
 use native.Mathlib.Omega.{arith}
-use native.Mathlib.Nat.{add-suc}
 use native.Mathlib.Numerals.{add-one}
 use native.Mathlib.Decide.{ℕ_discrete, dec_lt}
 use borrow.Author.Tests.{eq-eqb, ne_eqb, lt-ltb, le-ltb, le-leb, lt-leb}
@@ -210,12 +209,12 @@ module _ (places signers about : List ℕ) (q b : ℕ) where
   unfolding signers_in signed_in any
   signers_none = sym (set_none (λ s. signed_in places signers about 0 q s b) (λ s. refl))
 
-  -- one message more: the signers by the messages before a chunk and its first i + 1
-  pub signers_next : (from i w next : ℕ) → w ≡ signers_in places signers about (from + i) q b
-      → next ≡ choose (both (eqb (get_or about (from + i) 0) b) (eqb (digit 4 (get_or places (from + i) 0) q) view)) (with_member w (get_or signers (from + i) 0)) w
-      → next ≡ signers_in places signers about (from + (i + 1)) q b
+  -- one message more
+  pub signers_next : (m w next : ℕ) → w ≡ signers_in places signers about m q b
+      → next ≡ choose (both (eqb (get_or about m 0) b) (eqb (digit 4 (get_or places m 0) q) view)) (with_member w (get_or signers m 0)) w
+      → next ≡ signers_in places signers about (m + 1) q b
   unfolding signers_in signed_in says_in any
-  signers_next from i w next h e = set_next _ w next _ q _ _ b h e ∙ set_ext _ _ (λ s l. rw (add-one, add-suc))
+  signers_next m w next h e = set_next _ w next _ q _ _ b h e ∙ set_ext _ _ (λ s l. rw add-one)
 
   -- a chunk with no message about the block adds no signer
   pub signers_past : (from size w : ℕ) → size ≤ 64 → w ≡ signers_in places signers about from q b

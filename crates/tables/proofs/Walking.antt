@@ -164,11 +164,11 @@ module _ (view parents epochs : List ℕ) (last n b : ℕ) where
             known = λ y p. rw (whole.entries y p).0 (get_or-set_same (replicate blocks 0) b beat 0 l ∙ same);
           }
 
--- a walk has come to block x: no block up to it has a greater rank
+-- a walk has come to block x: no block before it has a greater rank
 module _ (s : ℕ → ℕ) (beat x : ℕ) where
   abbrev pub Behind : Type 0
-  Behind = (k : ℕ) → k < x + 1 → ltb beat (s k) ≡ false
+  Behind = (k : ℕ) → k < x → ltb beat (s k) ≡ false
 
   -- at first, where their numbers are too small
-  pub walk_low : ((k : ℕ) → s k ≤ k + 1) → x + 1 ≤ beat → Behind
+  pub walk_low : ((k : ℕ) → s k ≤ k + 1) → x ≤ beat → Behind
   walk_low most small k l = le-ltb beat (s k) (omega (arith, most k))

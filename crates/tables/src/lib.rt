@@ -1,14 +1,19 @@
-// What the columns of the register's tables say: of one office, block or message, of an office's view, and of chains. A column is lent whole;
-// no function here knows the register. A count of more than 1,024 messages or 32 offices counts as that.
+// The register's blocks and messages, in columns, and what these say: of one office, block or message, of an office's view, and of chains. No
+// function here knows the register. A count of more than 1,024 messages or 32 offices counts as that.
 #![tactic(auto)]
 
+mod blocks;
 mod chain;
+mod chunk;
 mod limits;
+mod messages;
 mod scan;
-mod stage;
+mod sizes;
+mod sorts;
 mod view;
 
-pub use chain::{is_longest, is_notarised_above, is_shorter, length_of};
-pub use scan::{epoch_at, in_history, is_made, is_signed, name_block, parent_at, trusted_at};
-pub use stage::{ABSENT, INBOX, TRANSIT, VIEW};
-pub use view::{View, view_of};
+pub use blocks::{Blocks, Header};
+pub use chain::{is_longest, is_notarised_above};
+pub use messages::Messages;
+pub use sorts::{Block, Epoch, Kind, Message, Office, Stage, is_trusted};
+pub use view::View;

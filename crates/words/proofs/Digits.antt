@@ -3,8 +3,7 @@ use Prim.Native.Nat.{ℕ, zero, suc, ◌+◌, ◌-◌, ◌*◌, ◌/◌, ◌%◌
 use mathlib.Core.Path.{◌≡◌, refl, sym, ap, ◌∙◌}
 use mathlib.Core.Bool.{Bool, true, false, not}
 use mathlib.Core.Logic.{⊎_elim}
-use native.Mathlib.Nat.{add_comm, add-mul, add-zero, eq_of_mul-eq-mul_right, eq-or-lt_of_le, lt_of_le_of_lt, lt_of_lt_of_le, mul_assoc, mul-lt-mul_of_pos_left, mul-one, mul-zero, one-le-pow, one-mul, pow-le-pow_right, pow-suc, pow-succ', pow-zero, zero-add, zero-mul}
-use native.Mathlib.Nat.{add-mul-div_right, add-mul-mod_self_right, div-eq_of_lt, mod-eq_of_lt, mod-le, mod-lt, mod-one, mul-mod_right, zero-div, zero-mod}
+use native.Mathlib.Nat.{add_comm, add-mul, add-zero, eq_of_mul-eq-mul_right, eq-or-lt_of_le, lt_of_le_of_lt, lt_of_lt_of_le, mul_assoc, mul-lt-mul_of_pos_left, mul-one, mul-zero, one-le-pow, one-mul, pow-le-pow_right, pow-suc, pow-succ', pow-zero, zero-add, zero-mul, add-mul-div_right, add-mul-mod_self_right, div-eq_of_lt, mod-eq_of_lt, mod-le, mod-lt, mod-one, mul-mod_right, zero-div, zero-mod}
 use native.Mathlib.Decide.{ℕ_discrete, dec_lt, dec_le, le_ind}
 use native.Mathlib.Numerals.{add-one}
 use native.Mathlib.Omega.{arith}

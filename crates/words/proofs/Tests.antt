@@ -1,7 +1,7 @@
 -- What follows from a test that holds, and what makes it hold.
 use Prim.Native.Nat.{ℕ, zero, suc, ◌<◌, ◌≤◌, ◌+◌}
 use mathlib.Core.Path.{◌≡◌, refl, sym, ap, subst}
-use mathlib.Core.Bool.{Bool, true, false, not, ◌&&◌, ◌||◌, beq}
+use mathlib.Core.Bool.{Bool, true, false, not, ◌&&◌, ◌||◌}
 use mathlib.Core.List.{List, [], ◌∷◌}
 use mathlib.Core.Logic.{◌⊎◌, inl, inr, ⊎_elim}
 use native.Mathlib.Omega.{arith}
@@ -9,7 +9,7 @@ use native.Mathlib.Numerals.{add-one}
 use native.Mathlib.Decide.{ℕ_discrete}
 use borrow.Author.Tests.{eqb-true, eq-eqb, leb-true, le-leb}
 use lib.Dec.{eqb, leb}
-use Rattle.words.specs.Tests.{choose, both, either, agree, between, all, any, every, member, lowest, conj}
+use Rattle.words.specs.Tests.{choose, both, either, between, all, any, every, member, lowest, conj}
 
 -- no test both holds and fails
 pub clash : {A : Type 0} {t : Bool} → t ≡ true → t ≡ false → A
@@ -193,6 +193,11 @@ module _ (p : ℕ → Bool) (i : ℕ) (so_far t : Bool) where
   unfolding any
   any_next h e = rw (h, e, or_either, add-one)
 
+-- a loop that leaves at the first number that passes: its next turn, where none has passed
+pub none_next : (p : ℕ → Bool) (i : ℕ) → any i p ≡ false → p i ≡ false → any (i + 1) p ≡ false
+unfolding any either
+none_next p i none miss = rw (add-one, none) miss
+
 -- the code's `&` of four tests
 pub and_four : (a b c d : Bool) → a && b && c && d ≡ conj (a ∷ b ∷ c ∷ d ∷ [])
 unfolding conj both
@@ -229,14 +234,6 @@ lowest_only (suc n) zero p none (inr h) = absurd (omega (arith, h))
 lowest_only (suc n) (suc k) p none h =
     rw (none zero (omega arith))
     (ap suc (lowest_only n k (λ i. p (suc i)) (λ i l. none (suc i) (omega arith)) (lowest_back n k p h)))
-
--- the code's `==` of two tests, and with `&` a third
-pub and_agree : (a b t : Bool) → beq a b && t ≡ both (agree a b) t
-unfolding both agree
-and_agree true true t = refl
-and_agree true false t = refl
-and_agree false true t = refl
-and_agree false false t = refl
 
 -- a test, and one that never holds
 pub both_none : (a : Bool) → both a false ≡ false

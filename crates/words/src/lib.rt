@@ -1,5 +1,7 @@
 // Words with one digit per office: a set of offices in base 2, the stages of a message in base 4; and the test of a range.
 // No function asks anything of its caller: an office past the last digit of a word reads as 0, and setting it leaves the word as it is.
+// The functions of a set and those of a row of stages stay two of each: a word of 32 bits and one of 64 differ in type, base and width, and a digit is set
+// by `|` in the one and by a sum in the other; a generic function would need a trait with all of these for its two types.
 #![tactic(auto)]
 
 ghost use Rattle.std.specs.Prelude.{◌≡◌, ◌%◌, ◌^◌, min, eqb};
@@ -24,7 +26,7 @@ pub fn has(set: u32, q: u8) -> bool
     bit(set, q) == 1
 }
 
-// The stage of office q.
+// The stage of office q, as a digit: the enum of the stages is of `tables`, which stands above this crate.
 pub fn stage(word: u64, q: u8) -> u8
     ensures { result ≡ digit 4 word q }
 {
@@ -79,7 +81,7 @@ pub fn is_within(set: u32, other: u32) -> bool
     set | other == other
 }
 
-// The word with that stage for office q; where a word has no such digit, the word as it is.
+// The word with that stage for office q; where a word has no such digit, the word as it is. It takes any number, as it always did: an enum would ask more.
 pub fn with_stage(word: u64, q: u8, new: u8) -> u64
     ensures { result ≡ with_stage word q new }
 {
@@ -108,23 +110,13 @@ pub fn members(set: u32, n: u8) -> u32
     u32::count_ones(below(set, n))
 }
 
-// The limit n, or 32 where n is more: the digits of a word.
-fn places(n: u8) -> u8
-    ensures { result ≡ min n 32 }
-{
-    if n < 32 { n } else { 32 }
-}
-
 // The word in which the offices of the set below n are at stage 1, and the others at 0.
 pub fn spread(set: u32, n: u8) -> u64
     ensures { result ≡ fill 4 n (digit 2 set) }
 {
-    let limit = places(n);
     let mut word = 0;
-    let mut q = 0;
-    while q < limit {
+    for q in 0..n.min(32) {
         word += (bit(set, q) as u64) * only_stage(q);
-        q += 1;
     }
     word
 }

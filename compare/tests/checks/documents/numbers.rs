@@ -10,12 +10,58 @@ use skovarnek_compare::register::{MOST_MESSAGES, MOST_OFFICES, Office, Opening, 
 /// The table of all numbers.
 pub const NUMBERS: [&str; 4] = ["number", "word", "meaning", "example"];
 
-const QUORUM: &str = "crates/quorum/src/lib.rt";
+const REFUSALS: &str = "crates/refusals/src/lib.rt";
+const NUMBERS_BY_RULE: &str = "crates/refusals/specs/Numbers.antt";
 const REGISTER: &str = "crates/register/src/refusal.rt";
 const PACKED_LOG: &str = "crates/packed_log/src/refusal.rt";
 const SLIP: &str = "crates/slip/src/refusal.rt";
 
-/// Names and values of the constants of a file, as they are written there.
+/// Number and name of each variant of the enum of refusals, in its order: a
+/// variant without a number has the one behind that of the variant before it.
+fn variants() -> Vec<(usize, String)> {
+    let text = text_of(REFUSALS);
+    let (_, behind) = text.split_once("pub enum Refusal {").expect("the enum");
+    let (body, _) = behind.split_once('}').expect("the end of the enum");
+    let mut next = 0;
+    let mut variants = Vec::new();
+    for variant in body.split(',').map(str::trim) {
+        if variant.is_empty() {
+            continue;
+        }
+        let (name, written) = variant.split_once(" = ").unwrap_or((variant, ""));
+        assert!(name.chars().all(char::is_alphabetic), "no variant: {name}");
+        if !written.is_empty() {
+            next = number(written);
+        }
+        variants.push((next, name.to_string()));
+        next += 1;
+    }
+    variants
+}
+
+/// Number and name of each variant, as the definition of their numbers has them.
+fn numbers_by_rule() -> Vec<(usize, String)> {
+    let text = text_of(NUMBERS_BY_RULE);
+    let inner = |line: &str| {
+        let (name, value) = line.strip_prefix("number_of ")?.split_once(" = ")?;
+        Some((number(value), name.to_string()))
+    };
+    text.lines().filter_map(inner).collect()
+}
+
+/// The words of a variant's name: each starts with a capital letter.
+fn words_of(variant: &str) -> String {
+    let mut words = String::new();
+    for letter in variant.chars() {
+        if letter.is_uppercase() & !words.is_empty() {
+            words.push(' ');
+        }
+        words.push(letter.to_ascii_lowercase());
+    }
+    words
+}
+
+/// Names of the constants of a file, and what they are, as written there.
 fn constants(path: &str) -> Vec<(String, String)> {
     let text = text_of(path);
     let inner = |line: &str| {
@@ -25,24 +71,23 @@ fn constants(path: &str) -> Vec<(String, String)> {
     text.lines().filter_map(inner).collect()
 }
 
-/// The number that a constant has, which may be one of `quorum`.
-fn value(written: &str) -> usize {
-    let Some(name) = written.strip_prefix("quorum::") else {
-        return number(written);
-    };
-    let of_quorum = constants(QUORUM);
-    let found = of_quorum.iter().find(|(other, _)| other == name);
-    number(&found.expect("a constant of quorum").1)
-}
-
-/// Number and word of each constant, by number.
+/// Number and word of each constant, by number. Its name and that of the variant
+/// that it stands for are the same words.
 fn numbers_of_the_code() -> Vec<(usize, String)> {
+    let variants = variants();
     let constants = [REGISTER, PACKED_LOG, SLIP].map(constants).concat();
-    let word = |name: &str| name.to_lowercase().replace('_', " ");
-    let pairs = constants.iter();
-    let mut pairs: Vec<(usize, String)> = pairs
-        .map(|(name, written)| (value(written), word(name)))
-        .collect();
+    let pair = |(name, written): &(String, String)| {
+        let variant = written
+            .strip_prefix("Refusal::")
+            .and_then(|written| written.strip_suffix(" as u8"))
+            .unwrap_or_else(|| panic!("{name} is no refusal: {written}"));
+        let word = name.to_lowercase().replace('_', " ");
+        assert_eq!(word, words_of(variant), "{name} is {written}");
+        let found = variants.iter().find(|(_, other)| other == variant);
+        let (number, _) = found.unwrap_or_else(|| panic!("{name}: no {written}"));
+        (*number, word)
+    };
+    let mut pairs: Vec<(usize, String)> = constants.iter().map(pair).collect();
     pairs.sort();
     pairs
 }
@@ -55,6 +100,12 @@ fn numbers_and_words() {
         .map(|row| (number(&row[0]), row[1].clone()))
         .collect();
     assert_rows(&written, &numbers_of_the_code());
+    assert_rows(&numbers_by_rule(), &variants());
+    let of_the_enum: Vec<(usize, String)> = variants()
+        .iter()
+        .map(|(number, name)| (*number, words_of(name)))
+        .collect();
+    assert_rows(&written, &of_the_enum);
     let words = TABLE.iter().map(|(word, _)| word.to_string());
     let of_this_package: Vec<(usize, String)> = (1..).zip(words).collect();
     assert_rows(&written, &of_this_package);

@@ -1,18 +1,26 @@
-use borrow.Author.Rules.{rules}
-use mathlib.Core.Path.{refl}
+-- `quorum::has_stray`: a leader of which the test holds is stray; where it holds of none, there is none.
+use mathlib.Core.Path.{◌≡◌, refl, sym}
+use native.Mathlib.Omega.{arith}
+use borrow.Author.Tests.{le-leb, lt-leb}
+use lib.ListN.{length}
 use Rattle.words.specs.Tests.{any}
-use Rattle.words.proofs.Tests.{any_next, any_end}
+use Rattle.words.proofs.Tests.{any_make, none_next}
 use Rattle.quorum.specs.Opening.{stray}
 use Rattle.quorum.proofs.has_stray.Goals as goal
 
-pub loop-i-init : goal.loop-i-init
-unfolding stray
-loop-i-init c = (search rules, unfold any in refl)
+pub loop-leader-init : goal.loop-leader-init
+unfolding any
+loop-leader-init c = refl
 
-pub loop-i-preserved : goal.loop-i-preserved
+pub loop-leader-preserved : goal.loop-leader-preserved
+loop-leader-preserved c = none_next _ _ c.loop-leader.invariant (lt-leb _ _ c.if-leader-n.false)
+
+pub returns-then-leader-n : goal.returns-then-leader-n
 unfolding stray
-loop-i-preserved c = (search rules, any_next _ _ _ _ c.loop-i.invariant.1 refl)
+returns-then-leader-n c = sym (any_make _ _ c.loop-leader.leader-index c.loop-leader-test.true (le-leb _ _ c.if-leader-n.true))
 
 pub returns : goal.returns
 unfolding stray
-returns c = any_end _ _ _ _ c.loop-i.invariant.0 c.loop-i-test.false c.loop-i.invariant.1
+returns c =
+    let end : c.loop-leader.leader-index ≡ length c.args.schedule.now = omega arith in
+    sym (rw end at c.loop-leader.invariant)

@@ -1,13 +1,10 @@
--- `quorum::has_stray`: at each turn the leaders below i have been tested.
-use Prim.Native.Nat.{◌-◌, ◌≤◌}
+-- `quorum::has_stray`: none of the leaders seen so far is stray.
 use mathlib.Core.Path.{◌≡◌}
+use mathlib.Core.Bool.{false}
 use lib.Dec.{leb}
-use lib.ListN.{length, get_or}
+use lib.ListN.{get_or}
 use Rattle.words.specs.Tests.{any}
 use Rattle.quorum.proofs.has_stray.Given as goal
 
-abbrev pub invariant-loop-i : goal.invariant-loop-i
-invariant-loop-i l = (l.i ≤ length l.schedule) × (l.found ≡ any l.i (λ k. leb l.n (get_or l.schedule k 0)))
-
-abbrev pub decreases-loop-i : goal.decreases-loop-i
-decreases-loop-i l = length l.schedule - l.i
+abbrev pub invariant-loop-leader : goal.invariant-loop-leader
+invariant-loop-leader l = any l.leader-index (λ k. leb l.n (get_or l.schedule k 0)) ≡ false

@@ -1,26 +1,26 @@
 // Advance: the next epoch, every trusted office ready.
-ghost use Rattle.std.specs.Prelude.{◌≡◌, []};
+ghost use Rattle.std.specs.Prelude.{◌≡◌};
+ghost use Rattle.register.specs.Books.{book_of};
 ghost use Rattle.register.specs.Types.{Step};
-ghost use Rattle.register.specs.Lent.{Counted, lent_book, no_blocks, no_messages};
-ghost use Rattle.register.specs.Changes.{change_by};
+ghost use Rattle.register.specs.Counted.{Counted};
+ghost use Rattle.register.specs.Changes.{change_by, told};
 
-use crate::book::Scalars;
 use crate::change::{Change, Clock};
-use crate::refusal;
 use crate::sorts::Epoch;
+use crate::table::Register;
+use refusals::Refusal;
 
-pub(crate) fn advance(unchanged: Change, scalars: Scalars) -> Change
-    requires { Counted scalars }
-    ensures { result ≡ change_by unchanged (lent_book scalars [] no_blocks no_messages) Step.Advance }
+pub(crate) fn advance(register: &Register, unchanged: Change) -> Result<Change, Refusal>
+    requires { Counted register.now }
+    ensures { told unchanged result ≡ change_by unchanged (book_of register.now) Step.Advance }
 {
-    let epoch = scalars.epoch.0;
-    if scalars.scheduled <= epoch {
-        return unchanged.refused(refusal::SPENT);
+    let epoch = register.epoch.0;
+    if register.scheduled <= epoch {
+        return Err(Refusal::Spent);
     }
-    let next = Epoch(epoch + 1);
     let clock = Clock {
-        epoch: next,
+        epoch: Epoch(epoch + 1),
         acted: 0,
     };
-    unchanged.timed(clock).accepted(epoch + 1)
+    Ok(unchanged.timed(clock).accepted(epoch + 1))
 }

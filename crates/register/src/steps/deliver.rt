@@ -1,53 +1,51 @@
 // Deliver: a message moves from transit to the inbox.
-ghost use Rattle.std.specs.Prelude.{◌≡◌, []};
+ghost use Rattle.std.specs.Prelude.{◌≡◌};
+ghost use Rattle.refusals.specs.Numbers.{outcome};
 ghost use Rattle.words.specs.Refusals.{first};
+ghost use Rattle.register.specs.Books.{book_of};
 ghost use Rattle.register.specs.Types.{Step};
 ghost use Rattle.register.specs.Steps.{deliver};
-ghost use Rattle.register.specs.Lent.{Counted, lent_book, no_blocks, messages};
-ghost use Rattle.register.specs.Changes.{change_by};
+ghost use Rattle.register.specs.Counted.{Counted};
+ghost use Rattle.register.specs.Changes.{change_by, told};
 
-use crate::book::Scalars;
 use crate::change::Change;
-use crate::columns::Places;
-use crate::refusal;
-use crate::sorts::{Message, Office};
+use crate::sorts::{Message, Office, Stage};
 use crate::steps::places::stage_of;
-use tables::{INBOX, TRANSIT};
+use crate::table::Register;
+use refusals::Refusal;
 
-// The refusal of a delivery, 0 where there is none.
-fn deliver_refusal(scalars: Scalars, places: &Places, message: Message, office: Office) -> u8
-    requires { Counted scalars }
-    ensures { result ≡ first
-        (deliver (lent_book scalars [] no_blocks (messages [] [] [] places.now)) message office).tests }
+// What a delivery is refused with.
+fn check_deliver(register: &Register, message: Message, office: Office) -> Result<(), Refusal>
+    requires { Counted register.now }
+    ensures { outcome result ≡ first (deliver (book_of register.now) message office).tests }
 {
-    if scalars.n <= office.0 {
-        return refusal::NO_OFFICE;
+    if register.n <= office.0 {
+        return Err(Refusal::NoOffice);
     }
-    if scalars.count <= message.0 {
-        return refusal::NO_MESSAGE;
+    if register.messages.count <= message.0 {
+        return Err(Refusal::NoMessage);
     }
-    if stage_of(scalars, places, office, message) != TRANSIT {
-        return refusal::NOT_SENT;
+    if stage_of(register, office, message) != Stage::Transit {
+        return Err(Refusal::NotSent);
     }
-    0
+    Ok(())
 }
 
 // The change that a delivery makes.
 pub(crate) fn deliver(
+    register: &Register,
     unchanged: Change,
-    scalars: Scalars,
-    places: &Places,
     message: Message,
     office: Office,
-) -> Change
-    requires { Counted scalars }
-    ensures { result ≡ change_by unchanged
-        (lent_book scalars [] no_blocks (messages [] [] [] places.now)) (Step.Deliver message office) }
+) -> Result<Change, Refusal>
+    requires { Counted register.now }
+    ensures { told unchanged result ≡ change_by unchanged (book_of register.now) (Step.Deliver message office) }
 {
-    let refusal = deliver_refusal(scalars, places, message, office);
-    if refusal != 0 {
-        return unchanged.refused(refusal);
-    }
-    let word = words::with_stage(places[message.0 as usize], office.0, INBOX);
-    unchanged.moved(message, word).accepted(message.0)
+    check_deliver(register, message, office)?;
+    let word = words::with_stage(
+        register.messages.places[message.0 as usize],
+        office.0,
+        Stage::Inbox as u8,
+    );
+    Ok(unchanged.moved(message, word).accepted(message.0))
 }

@@ -1,68 +1,52 @@
 // Any step, as the change that it makes.
-ghost use Rattle.std.specs.Prelude.{◌≡◌, true, []};
-ghost use Rattle.register.specs.Lent.{Counted, lent_book, whole_book, blocks, messages};
-ghost use Rattle.register.specs.Changes.{unchanged_of, ChangeFor};
+ghost use Rattle.std.specs.Prelude.{◌≡◌, true, ◌<◌};
+ghost use Rattle.register.specs.Books.{book_of};
+ghost use Rattle.register.specs.Limits.{most_offices};
+ghost use Rattle.register.specs.Counted.{Counted};
+ghost use Rattle.register.specs.Tables.{state_of};
+ghost use Rattle.register.specs.Changes.{unchanged_of, change_by, change_of, told};
 ghost use Rattle.register.specs.Settled.{Acts};
 
 use crate::actor::Actor;
-use crate::book::Scalars;
 use crate::change::{Answer, BlockEntry, Change, Clock, MessageEntry, OfficeEntry, PlaceEntry};
-use crate::columns::{About, Epochs, Leaders, Parents, Payloads, Places, Signers, Votes};
-use crate::refusal;
-use crate::sorts::{Block, Epoch, Office};
 use crate::step::Step;
 use crate::steps::{advance, bad_send, deliver, draft, finalise, propose, register, vote};
-use crate::table::Header;
+use crate::table::Register;
+use refusals::Refusal;
+use tables::Header;
 
-// The change that leaves a book as it is.
-fn unchanged<'a>(
-    scalars: Scalars,
-    parents: &'a Parents,
-    epochs: &'a Epochs,
-    payloads: &'a Payloads,
-    votes: &'a Votes,
-    signers: &'a Signers,
-    about: &'a About,
-    places: &'a Places,
-    actor: Actor,
-) -> Change
-    ensures { result ≡ unchanged_of
-        (lent_book scalars [] (blocks parents.now epochs.now payloads.now)
-        (messages votes.now signers.now about.now places.now))
-        actor.at actor.state }
+// The change that leaves a book as it is, for an actor at that place of the table of offices.
+fn unchanged(register: &Register, at: usize) -> Change
+    requires { at < most_offices }
+    ensures { result ≡ unchanged_of (book_of register.now) at (state_of (book_of register.now) at) }
 {
-    let epoch = scalars.epoch;
-    let last = scalars.last;
-    let state = actor.state;
-    let place = places[0];
-    let header = Header {
-        parent: Block(parents[0]),
-        epoch: Epoch(epochs[0]),
-        payload: payloads[0],
-    };
-    let message = MessageEntry {
-        count: scalars.count,
-        at: 0,
-        vote: votes[0],
-        signer: Office(signers[0]),
-        about: Block(about[0]),
-        place,
-    };
+    let place = register.messages.places[0];
     Change {
         clock: Clock {
-            epoch,
-            acted: scalars.acted,
+            epoch: register.epoch,
+            acted: register.acted,
         },
         block: BlockEntry {
-            last,
+            last: register.blocks.last,
             at: 0,
-            header,
+            header: Header {
+                parent: register.blocks.parents[0],
+                epoch: register.blocks.epochs[0],
+                payload: register.blocks.payloads[0],
+            },
         },
-        message,
+        message: MessageEntry {
+            count: register.messages.count,
+            at: 0,
+            kind: register.messages.kinds[0],
+            signer: register.messages.signers[0],
+            about: register.messages.about[0],
+            place,
+        },
         place: PlaceEntry { at: 0, place },
         office: OfficeEntry {
-            at: actor.at,
-            state,
+            at,
+            state: register.offices[at],
         },
         answer: Answer {
             value: 0,
@@ -71,68 +55,41 @@ fn unchanged<'a>(
     }
 }
 
-// The change that a step makes of the book of those single numbers and columns, in which the actor holds its state. Where the book is not fit, a step
-// gets 5.
-pub(crate) fn judge<'a>(
-    fits: bool,
-    scalars: Scalars,
-    leaders: &'a Leaders,
-    parents: &'a Parents,
-    epochs: &'a Epochs,
-    payloads: &'a Payloads,
-    votes: &'a Votes,
-    signers: &'a Signers,
-    about: &'a About,
-    places: &'a Places,
-    actor: Actor,
-    step: Step,
-) -> Change
-    requires { (fits ≡ true → Counted scalars)
-        × Acts
-        (lent_book scalars leaders.now (blocks parents.now epochs.now payloads.now)
-        (messages votes.now signers.now about.now places.now))
-        step actor }
-    ensures { ChangeFor fits
-        (whole_book scalars leaders.now (blocks parents.now epochs.now payloads.now)
-        (messages votes.now signers.now about.now places.now))
-        actor.at actor.state step result }
+// The change that a step makes of a book whose single numbers are in their ranges, or its refusal. The kinds of step are closed, and each function takes the
+// fields of its own, which no table of functions and no `dyn` could give it.
+fn attempt(register: &Register, same: Change, actor: Actor, step: Step) -> Result<Change, Refusal>
+    requires { Counted register.now × Acts (book_of register.now) step actor }
+    ensures { told same result ≡ change_by same (book_of register.now) step }
 {
-    let same = unchanged(
-        scalars, parents, epochs, payloads, votes, signers, about, places, actor,
-    );
-    if !fits {
-        return same.refused(refusal::UNFIT_REGISTER);
-    }
     match step {
-        Step::Propose(office, parent, payload) => propose::propose(
-            same, scalars, leaders, parents, epochs, payloads, signers, about, places, office,
-            parent, payload,
-        ),
-        Step::Vote(office, message) => vote::vote(
-            same, scalars, leaders, parents, epochs, votes, signers, about, places, office, message,
-        ),
-        Step::Register(office, message) => {
-            register::register(
-                same, scalars, votes, signers, about, places, office, message,
-            )
+        Step::Propose(office, parent, payload) => {
+            propose::propose(register, same, office, parent, payload)
         }
+        Step::Vote(office, message) => vote::vote(register, same, office, message),
+        Step::Register(office, message) => register::register(register, same, office, message),
         Step::Finalise(office, newest) => {
-            let base = actor.base;
-            finalise::finalise(
-                same, scalars, parents, epochs, signers, about, places, base, office, newest,
-            )
+            finalise::finalise(register, same, actor.base, office, newest)
         }
-        Step::Deliver(message, office) => deliver::deliver(same, scalars, places, message, office),
+        Step::Deliver(message, office) => deliver::deliver(register, same, message, office),
         Step::BadSend(sender, kind, signer, b) => {
-            bad_send::bad_send(
-                same, scalars, votes, signers, about, sender, kind, signer, b,
-            )
+            bad_send::bad_send(register, same, sender, kind, signer, b)
         }
-        Step::Draft(parent, epoch, payload) => {
-            draft::draft(
-                same, scalars, parents, epochs, payloads, parent, epoch, payload,
-            )
-        }
-        Step::Advance => advance::advance(same, scalars),
+        Step::Draft(parent, epoch, payload) => draft::draft(register, same, parent, epoch, payload),
+        Step::Advance => advance::advance(register, same),
+    }
+}
+
+// The change that a step makes. Where the book is not fit, a step gets 5.
+pub(crate) fn judge(fits: bool, register: &Register, actor: Actor, step: Step) -> Change
+    requires { (fits ≡ true → Counted register.now) × Acts (book_of register.now) step actor }
+    ensures { result ≡ change_of fits (book_of register.now) actor.at step }
+{
+    let same = unchanged(register, actor.at);
+    if !fits {
+        return same.refused(Refusal::UnfitRegister);
+    }
+    match attempt(register, same, actor, step) {
+        Ok(change) => change,
+        Err(refusal) => same.refused(refusal),
     }
 }

@@ -1,4 +1,4 @@
-// The eight steps, each as the change that it makes.
+// The eight steps, each as the change that it makes. The fields of a step are the parameters of its functions, as in `Step`.
 mod advance;
 mod bad_send;
 mod deliver;
@@ -6,7 +6,7 @@ mod draft;
 mod extending;
 mod finalise;
 pub mod judge;
-mod places;
+pub mod places;
 mod propose;
 mod register;
 mod vote;

@@ -1,127 +1,93 @@
 // Propose: the leader names a block of the current epoch and sends its proposal.
-ghost use Rattle.std.specs.Prelude.{◌≡◌, []};
+ghost use Rattle.std.specs.Prelude.{◌≡◌};
+ghost use Rattle.refusals.specs.Numbers.{outcome};
 ghost use Rattle.words.specs.Refusals.{first, until};
+ghost use Rattle.register.specs.Books.{book_of};
 ghost use Rattle.register.specs.Types.{Step};
 ghost use Rattle.register.specs.Steps.{propose};
-ghost use Rattle.register.specs.Lent.{Counted, lent_book, blocks, no_blocks, messages, no_messages};
-ghost use Rattle.register.specs.Changes.{change_by};
+ghost use Rattle.register.specs.Counted.{Counted};
+ghost use Rattle.register.specs.Changes.{change_by, told};
 
-use crate::book::Scalars;
 use crate::change::Change;
-use crate::columns::{About, Epochs, Leaders, Parents, Payloads, Places, Signers};
 use crate::limits::{MOST_BLOCKS, MOST_MESSAGES};
-use crate::refusal;
-use crate::sorts::{Block, Message, Office};
-use crate::steps::extending::{extending_refusal, leads};
+use crate::sorts::{Block, Kind, Message, Office};
+use crate::steps::extending::{check_extending, leads};
 use crate::steps::places::sent_place;
-use crate::table::Header;
+use crate::table::Register;
+use refusals::Refusal;
+use tables::Header;
 
-// The refusal of a proposal by its tests up to 13: there is no such office or block, or the office is untrusted, has acted or does not
-// lead.
-fn leader_refusal(
-    scalars: Scalars,
-    leaders: &Leaders,
+// What a proposal is refused with by its tests up to 13: there is no such office or block, or the office is untrusted, has acted or does not lead.
+fn check_leader(
+    register: &Register,
     office: Office,
     parent: Block,
     payload: u16,
-) -> u8
-    requires { Counted scalars }
-    ensures { result ≡ first (until 19
-        (propose (lent_book scalars leaders.now no_blocks no_messages) office parent payload).tests) }
+) -> Result<(), Refusal>
+    requires { Counted register.now }
+    ensures { outcome result ≡ first (until 19 (propose (book_of register.now) office parent payload).tests) }
 {
-    if scalars.n <= office.0 {
-        return refusal::NO_OFFICE;
+    if register.n <= office.0 {
+        return Err(Refusal::NoOffice);
     }
-    if scalars.last.0 < parent.0 {
-        return refusal::NO_BLOCK;
+    if register.blocks.last.0 < parent.0 {
+        return Err(Refusal::NoBlock);
     }
-    if !tables::trusted_at(scalars.n, scalars.trust, office.0) {
-        return refusal::BARRED;
+    if !register.is_trusted(office) {
+        return Err(Refusal::Barred);
     }
-    if words::has(scalars.acted, office.0) {
-        return refusal::ACTED;
+    if words::has(register.acted, office.0) {
+        return Err(Refusal::Acted);
     }
-    if !leads(scalars, leaders, office) {
-        return refusal::NOT_LEADER;
+    if !leads(register, office) {
+        return Err(Refusal::NotLeader);
     }
-    0
+    Ok(())
 }
 
-// The refusal of a proposal by its tests up to 20, which ask nothing of the block's name; 0 where there is none.
-fn parent_refusal<'a>(
-    scalars: Scalars,
-    leaders: &'a Leaders,
-    parents: &'a Parents,
-    epochs: &'a Epochs,
-    signers: &'a Signers,
-    about: &'a About,
-    places: &'a Places,
+// What it is refused with by its tests up to 20, which ask nothing of the block's name.
+fn check_parent(
+    register: &Register,
     office: Office,
     parent: Block,
     payload: u16,
-) -> u8
-    requires { Counted scalars }
-    ensures { result ≡ first (until 25 (propose
-        (lent_book scalars leaders.now (blocks parents.now epochs.now [])
-        (messages [] signers.now about.now places.now))
-        office parent payload).tests) }
+) -> Result<(), Refusal>
+    requires { Counted register.now }
+    ensures { outcome result ≡ first (until 25 (propose (book_of register.now) office parent payload).tests) }
 {
-    let early = leader_refusal(scalars, leaders, office, parent, payload);
-    if early != 0 {
-        return early;
-    }
-    let epoch = scalars.epoch;
-    extending_refusal(
-        scalars, parents, epochs, signers, about, places, office, parent, epoch,
-    )
+    check_leader(register, office, parent, payload)?;
+    check_extending(register, office, parent, register.epoch)
 }
 
 // The change that a proposal makes.
-pub(crate) fn propose<'a>(
+pub(crate) fn propose(
+    register: &Register,
     unchanged: Change,
-    scalars: Scalars,
-    leaders: &'a Leaders,
-    parents: &'a Parents,
-    epochs: &'a Epochs,
-    payloads: &'a Payloads,
-    signers: &'a Signers,
-    about: &'a About,
-    places: &'a Places,
     office: Office,
     parent: Block,
     payload: u16,
-) -> Change
-    requires { Counted scalars }
-    ensures { result ≡ change_by unchanged
-        (lent_book scalars leaders.now (blocks parents.now epochs.now payloads.now)
-        (messages [] signers.now about.now places.now))
-        (Step.Propose office parent payload) }
+) -> Result<Change, Refusal>
+    requires { Counted register.now }
+    ensures { told unchanged result ≡ change_by unchanged (book_of register.now) (Step.Propose office parent payload) }
 {
-    let refusal = parent_refusal(
-        scalars, leaders, parents, epochs, signers, about, places, office, parent, payload,
-    );
-    if refusal != 0 {
-        return unchanged.refused(refusal);
-    }
-    let epoch = scalars.epoch;
-    let last = scalars.last.0;
-    let b = tables::name_block(parents, epochs, payloads, last, parent.0, epoch.0, payload);
-    if b > MOST_BLOCKS {
-        return unchanged.refused(refusal::BLOCKS_FULL);
-    }
-    if scalars.count >= MOST_MESSAGES {
-        return unchanged.refused(refusal::MESSAGES_FULL);
-    }
-    let word = sent_place(scalars, office);
-    let block = Block(b as u8);
+    check_parent(register, office, parent, payload)?;
     let header = Header {
         parent,
-        epoch,
+        epoch: register.epoch,
         payload,
     };
-    let next = Message(scalars.count);
+    let b = register.blocks.name(header);
+    if b > MOST_BLOCKS {
+        return Err(Refusal::BlocksFull);
+    }
+    if register.messages.count >= MOST_MESSAGES {
+        return Err(Refusal::MessagesFull);
+    }
+    let block = Block(b as u8);
+    let next = Message(register.messages.count);
+    let word = sent_place(register, office);
     let sent = unchanged
         .named(block, header)
-        .sent(next, false, office, block, word);
-    sent.acted(office).accepted(scalars.count)
+        .sent(next, Kind::Proposal, office, block, word);
+    Ok(sent.acted(office).accepted(register.messages.count))
 }

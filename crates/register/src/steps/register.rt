@@ -1,75 +1,60 @@
 // Register: a vote moves from the inbox to the view.
-ghost use Rattle.std.specs.Prelude.{◌≡◌, []};
+ghost use Rattle.std.specs.Prelude.{◌≡◌};
+ghost use Rattle.refusals.specs.Numbers.{outcome};
 ghost use Rattle.words.specs.Refusals.{first};
+ghost use Rattle.register.specs.Books.{book_of};
 ghost use Rattle.register.specs.Types.{Step};
-ghost use Rattle.register.specs.Steps.{register};
-ghost use Rattle.register.specs.Lent.{Counted, lent_book, no_blocks, messages};
-ghost use Rattle.register.specs.Changes.{change_by};
+ghost use Rattle.register.specs.Steps.{register as register_rule};
+ghost use Rattle.register.specs.Counted.{Counted};
+ghost use Rattle.register.specs.Changes.{change_by, told};
 
-use crate::book::Scalars;
 use crate::change::Change;
-use crate::columns::{About, Places, Signers, Votes};
-use crate::refusal;
-use crate::sorts::{Message, Office};
+use crate::sorts::{Kind, Message, Office, Stage};
 use crate::steps::places::{is_entered, stage_of};
-use tables::{INBOX, VIEW};
+use crate::table::Register;
+use refusals::Refusal;
 
-// The refusal of a register step, 0 where there is none.
-fn register_refusal<'a>(
-    scalars: Scalars,
-    votes: &'a Votes,
-    signers: &'a Signers,
-    about: &'a About,
-    places: &'a Places,
-    office: Office,
-    message: Message,
-) -> u8
-    requires { Counted scalars }
-    ensures { result ≡ first (register
-        (lent_book scalars [] no_blocks (messages votes.now signers.now about.now places.now))
-        office message).tests }
+// What a register step is refused with.
+fn check_register(register: &Register, office: Office, message: Message) -> Result<(), Refusal>
+    requires { Counted register.now }
+    ensures { outcome result ≡ first (register_rule (book_of register.now) office message).tests }
 {
-    if scalars.n <= office.0 {
-        return refusal::NO_OFFICE;
+    if register.n <= office.0 {
+        return Err(Refusal::NoOffice);
     }
-    if scalars.count <= message.0 {
-        return refusal::NO_MESSAGE;
+    if register.messages.count <= message.0 {
+        return Err(Refusal::NoMessage);
     }
-    if !tables::trusted_at(scalars.n, scalars.trust, office.0) {
-        return refusal::BARRED;
+    if !register.is_trusted(office) {
+        return Err(Refusal::Barred);
     }
-    if stage_of(scalars, places, office, message) != INBOX {
-        return refusal::NOT_IN_HAND;
+    if stage_of(register, office, message) != Stage::Inbox {
+        return Err(Refusal::NotInHand);
     }
-    if !votes[message.0 as usize] {
-        return refusal::KIND;
+    if register.messages.kinds[message.0 as usize] != Kind::Vote {
+        return Err(Refusal::Kind);
     }
-    if is_entered(scalars, signers, about, places, office, message) {
-        return refusal::ENTERED;
+    if is_entered(register, office, message) {
+        return Err(Refusal::Entered);
     }
-    0
+    Ok(())
 }
 
 // The change that a register step makes.
-pub(crate) fn register<'a>(
+pub(crate) fn register(
+    register: &Register,
     unchanged: Change,
-    scalars: Scalars,
-    votes: &'a Votes,
-    signers: &'a Signers,
-    about: &'a About,
-    places: &'a Places,
     office: Office,
     message: Message,
-) -> Change
-    requires { Counted scalars }
-    ensures { result ≡ change_by unchanged
-        (lent_book scalars [] no_blocks (messages votes.now signers.now about.now places.now))
-        (Step.Register office message) }
+) -> Result<Change, Refusal>
+    requires { Counted register.now }
+    ensures { told unchanged result ≡ change_by unchanged (book_of register.now) (Step.Register office message) }
 {
-    let refusal = register_refusal(scalars, votes, signers, about, places, office, message);
-    if refusal != 0 {
-        return unchanged.refused(refusal);
-    }
-    let word = words::with_stage(places[message.0 as usize], office.0, VIEW);
-    unchanged.moved(message, word).accepted(message.0)
+    check_register(register, office, message)?;
+    let word = words::with_stage(
+        register.messages.places[message.0 as usize],
+        office.0,
+        Stage::View as u8,
+    );
+    Ok(unchanged.moved(message, word).accepted(message.0))
 }

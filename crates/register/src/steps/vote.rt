@@ -1,167 +1,104 @@
 // Vote: a proposal moves from the inbox to the view, and a vote for its block is sent.
-ghost use Rattle.std.specs.Prelude.{◌≡◌, [], ◌<◌};
+ghost use Rattle.std.specs.Prelude.{◌≡◌, ◌<◌};
+ghost use Rattle.refusals.specs.Numbers.{outcome};
 ghost use Rattle.words.specs.Refusals.{first, until};
+ghost use Rattle.register.specs.Books.{book_of};
 ghost use Rattle.register.specs.Types.{Step};
 ghost use Rattle.register.specs.Refusals.{off_epoch};
 ghost use Rattle.register.specs.Steps.{vote};
 ghost use Rattle.register.specs.Limits.{most_messages};
-ghost use Rattle.register.specs.Lent.{Counted, lent_book, blocks, messages};
-ghost use Rattle.register.specs.Changes.{change_by};
+ghost use Rattle.register.specs.Counted.{Counted};
+ghost use Rattle.register.specs.Changes.{change_by, told};
 
-use crate::book::Scalars;
 use crate::change::Change;
-use crate::columns::{About, Epochs, Leaders, Parents, Places, Signers, Votes};
 use crate::limits::MOST_MESSAGES;
-use crate::refusal;
-use crate::sorts::{Block, Epoch, Message, Office};
-use crate::steps::extending::{extending_refusal, leads};
+use crate::sorts::{Kind, Message, Office, Stage};
+use crate::steps::extending::{check_extending, leads};
 use crate::steps::places::{is_entered, sent_place, stage_of};
-use tables::{INBOX, VIEW};
+use crate::table::Register;
+use refusals::Refusal;
 
 // The message is not signed by the leader, or its block is not of the current epoch.
-fn is_off_epoch<'a>(
-    scalars: Scalars,
-    leaders: &'a Leaders,
-    epochs: &'a Epochs,
-    signers: &'a Signers,
-    about: &'a About,
-    message: Message,
-) -> bool
-    requires { Counted scalars × (message.0 < most_messages) }
-    ensures { result ≡ off_epoch
-        (lent_book scalars leaders.now (blocks [] epochs.now [])
-        (messages [] signers.now about.now []))
-        message.0 }
+fn is_off_epoch(register: &Register, message: Message) -> bool
+    requires { Counted register.now × (message.0 < most_messages) }
+    ensures { result ≡ off_epoch (book_of register.now) message.0 }
 {
     let at = message.0 as usize;
-    let led = leads(scalars, leaders, Office(signers[at]));
-    let epoch = tables::epoch_at(epochs, scalars.last.0, about[at]);
-    !led | (epoch != scalars.epoch.0)
+    let led = leads(register, register.messages.signers[at]);
+    let epoch = register.blocks.epoch(register.messages.about[at]);
+    !led | (epoch != register.epoch)
 }
 
-// The refusal of a vote by its tests up to 17: the office may not vote, or the message is no proposal of the leader's for the current epoch in its
-// inbox.
-fn proposal_refusal<'a>(
-    scalars: Scalars,
-    leaders: &'a Leaders,
-    epochs: &'a Epochs,
-    votes: &'a Votes,
-    signers: &'a Signers,
-    about: &'a About,
-    places: &'a Places,
-    office: Office,
-    message: Message,
-) -> u8
-    requires { Counted scalars }
-    ensures { result ≡ first (until 18 (vote
-        (lent_book scalars leaders.now (blocks [] epochs.now [])
-        (messages votes.now signers.now about.now places.now))
-        office message).tests) }
+// What a vote is refused with by its tests up to 17: the office may not vote, or the message is no proposal of the leader's for the current epoch in
+// its inbox.
+fn check_proposal(register: &Register, office: Office, message: Message) -> Result<(), Refusal>
+    requires { Counted register.now }
+    ensures { outcome result ≡ first (until 18 (vote (book_of register.now) office message).tests) }
 {
-    if scalars.n <= office.0 {
-        return refusal::NO_OFFICE;
+    if register.n <= office.0 {
+        return Err(Refusal::NoOffice);
     }
-    if scalars.count <= message.0 {
-        return refusal::NO_MESSAGE;
+    if register.messages.count <= message.0 {
+        return Err(Refusal::NoMessage);
     }
-    if !tables::trusted_at(scalars.n, scalars.trust, office.0) {
-        return refusal::BARRED;
+    if !register.is_trusted(office) {
+        return Err(Refusal::Barred);
     }
-    if words::has(scalars.acted, office.0) {
-        return refusal::ACTED;
+    if words::has(register.acted, office.0) {
+        return Err(Refusal::Acted);
     }
-    if leads(scalars, leaders, office) {
-        return refusal::LEADER_VOTES;
+    if leads(register, office) {
+        return Err(Refusal::LeaderVotes);
     }
-    if stage_of(scalars, places, office, message) != INBOX {
-        return refusal::NOT_IN_HAND;
+    if stage_of(register, office, message) != Stage::Inbox {
+        return Err(Refusal::NotInHand);
     }
-    if votes[message.0 as usize] {
-        return refusal::KIND;
+    if register.messages.kinds[message.0 as usize] == Kind::Vote {
+        return Err(Refusal::Kind);
     }
-    if is_off_epoch(scalars, leaders, epochs, signers, about, message) {
-        return refusal::OFF_EPOCH;
+    if is_off_epoch(register, message) {
+        return Err(Refusal::OffEpoch);
     }
-    0
+    Ok(())
 }
 
-// The refusal of a vote, 0 where there is none.
-fn vote_refusal<'a>(
-    scalars: Scalars,
-    leaders: &'a Leaders,
-    parents: &'a Parents,
-    epochs: &'a Epochs,
-    votes: &'a Votes,
-    signers: &'a Signers,
-    about: &'a About,
-    places: &'a Places,
-    office: Office,
-    message: Message,
-) -> u8
-    requires { Counted scalars }
-    ensures { result ≡ first (vote
-        (lent_book scalars leaders.now (blocks parents.now epochs.now [])
-        (messages votes.now signers.now about.now places.now))
-        office message).tests }
+// What a vote is refused with.
+fn check_vote(register: &Register, office: Office, message: Message) -> Result<(), Refusal>
+    requires { Counted register.now }
+    ensures { outcome result ≡ first (vote (book_of register.now) office message).tests }
 {
-    let early = proposal_refusal(
-        scalars, leaders, epochs, votes, signers, about, places, office, message,
-    );
-    if early != 0 {
-        return early;
+    check_proposal(register, office, message)?;
+    if is_entered(register, office, message) {
+        return Err(Refusal::Entered);
     }
-    if is_entered(scalars, signers, about, places, office, message) {
-        return refusal::ENTERED;
+    let b = register.messages.about[message.0 as usize];
+    let parent = register.blocks.parent(b);
+    let epoch = register.blocks.epoch(b);
+    check_extending(register, office, parent, epoch)?;
+    if register.messages.count >= MOST_MESSAGES {
+        return Err(Refusal::MessagesFull);
     }
-    let last = scalars.last.0;
-    let b = about[message.0 as usize];
-    let parent = Block(tables::parent_at(parents, last, b));
-    let epoch = Epoch(tables::epoch_at(epochs, last, b));
-    let late = extending_refusal(
-        scalars, parents, epochs, signers, about, places, office, parent, epoch,
-    );
-    if late != 0 {
-        return late;
-    }
-    if scalars.count >= MOST_MESSAGES {
-        return refusal::MESSAGES_FULL;
-    }
-    0
+    Ok(())
 }
 
 // The change that a vote makes.
-pub(crate) fn vote<'a>(
+pub(crate) fn vote(
+    register: &Register,
     unchanged: Change,
-    scalars: Scalars,
-    leaders: &'a Leaders,
-    parents: &'a Parents,
-    epochs: &'a Epochs,
-    votes: &'a Votes,
-    signers: &'a Signers,
-    about: &'a About,
-    places: &'a Places,
     office: Office,
     message: Message,
-) -> Change
-    requires { Counted scalars }
-    ensures { result ≡ change_by unchanged
-        (lent_book scalars leaders.now (blocks parents.now epochs.now [])
-        (messages votes.now signers.now about.now places.now))
-        (Step.Vote office message) }
+) -> Result<Change, Refusal>
+    requires { Counted register.now }
+    ensures { told unchanged result ≡ change_by unchanged (book_of register.now) (Step.Vote office message) }
 {
-    let refusal = vote_refusal(
-        scalars, leaders, parents, epochs, votes, signers, about, places, office, message,
-    );
-    if refusal != 0 {
-        return unchanged.refused(refusal);
-    }
+    check_vote(register, office, message)?;
     let at = message.0 as usize;
-    let word = sent_place(scalars, office);
-    let next = Message(scalars.count);
-    let b = Block(about[at]);
-    let entered = words::with_stage(places[at], office.0, VIEW);
+    let word = sent_place(register, office);
+    let next = Message(register.messages.count);
+    let b = register.messages.about[at];
+    let entered = words::with_stage(register.messages.places[at], office.0, Stage::View as u8);
     let sent = unchanged
-        .sent(next, true, office, b, word)
+        .sent(next, Kind::Vote, office, b, word)
         .moved(message, entered);
-    sent.acted(office).accepted(scalars.count)
+    Ok(sent.acted(office).accepted(register.messages.count))
 }

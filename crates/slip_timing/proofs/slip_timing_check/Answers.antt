@@ -1,4 +1,4 @@
-use mathlib.Core.Path.{refl, ◌∙◌}
+use mathlib.Core.Path.{◌∙◌}
 use native.Mathlib.Omega.{arith}
 use borrow.Author.Tests.{ne_eqb}
 use Rattle.words.specs.Tests.{choose}
@@ -13,19 +13,15 @@ returns-then-end-ne0 c =
     let told = c.answer.ensures.0 in
     (λ _. told ∙ rw (← ended), λ _ _. told ∙ rw (← ended, ne_eqb _ 0 c.if-end-ne0.true))
 
-pub loop-turn-init : goal.loop-turn-init
-loop-turn-init c = (omega arith, omega arith, λ _. refl, λ some _. absurd (omega (arith, some)))
-
 pub loop-turn-preserved : goal.loop-turn-preserved
 unfolding tells_checked
 loop-turn-preserved c =
     let told = c.answer-last.ensures in (
-      omega (arith, c.loop-turn-test.true),
       told.1,
       λ none. absurd (omega (arith, none)),
       λ _ few.
           told.0
-          ∙ rw (c.check_slip-checked.ensures, whole _ _ (c.start_of-start.ensures.1 c.loop-turn.invariant.1 few)),
+          ∙ rw (c.check_slip-checked.ensures, whole _ _ (c.start_of-start.ensures.1 c.loop-turn.invariant.0 few)),
     )
 
 pub returns : goal.returns
@@ -33,6 +29,6 @@ unfolding slip_checked choose
 returns c =
     let ended = c.run_log-end.ensures in
     let turns = c.loop-turn.invariant in (
-      λ none. turns.2 (omega (arith, turns.0, none)) ∙ rw (← ended, c.if-end-ne0.false),
-      λ some few. turns.3 (omega (arith, c.loop-turn-test.false, some)) few ∙ rw (← ended, c.if-end-ne0.false),
+      λ none. turns.1 (omega (arith, none)) ∙ rw (← ended, c.if-end-ne0.false),
+      λ some few. turns.2 (omega (arith, c.loop-turn-test.false, some)) few ∙ rw (← ended, c.if-end-ne0.false),
     )

@@ -1,5 +1,5 @@
 -- `slip_timing_check`: a log that does not read, and a slip that is checked turn for turn.
-use Prim.Native.Nat.{◌-◌, ◌^◌, ◌<◌, ◌≤◌}
+use Prim.Native.Nat.{◌^◌, ◌<◌, ◌≤◌}
 use mathlib.Core.Path.{◌≡◌}
 use Rattle.register.specs.Books.{book_of}
 use Rattle.slip.specs.Checking.{checked}
@@ -8,8 +8,5 @@ use Rattle.slip_timing.proofs.slip_timing_check.Given as goal
 
 abbrev pub invariant-loop-turn : goal.invariant-loop-turn
 invariant-loop-turn l =
-    (l.turn ≤ l.times) × (l.last < 2 ^ 24) × (l.turn ≡ 0 → l.last ≡ 0)
-    × (0 < l.turn → l.times ≤ 2147483647 → l.last ≡ tells_checked (checked (book_of l.register) l.slip))
-
-abbrev pub decreases-loop-turn : goal.decreases-loop-turn
-decreases-loop-turn l = l.times - l.turn
+    (l.last < 2 ^ 24) × (l._turn ≡ 0 → l.last ≡ 0)
+    × (0 < l._turn → l.times ≤ 2147483647 → l.last ≡ tells_checked (checked (book_of l.register) l.slip))

@@ -15,23 +15,19 @@ returns-then-end-ne0 c =
     let told = c.answer.ensures.0 in
     (λ _. (told ∙ rw (← ended), refl), λ _ _. (told ∙ rw (← ended, some), rw (← ended, some)), refl)
 
-pub loop-turn-init : goal.loop-turn-init
-loop-turn-init c = (omega arith, omega arith, refl, λ _. (refl, refl), λ some _. absurd (omega (arith, some)))
-
 pub loop-turn-preserved : goal.loop-turn-preserved
 unfolding tells_written
 loop-turn-preserved c =
     let turns = c.loop-turn.invariant in
     let told = c.answer-last.ensures in
     let wrote = c.write_slip-written.ensures in (
-      omega (arith, c.loop-turn-test.true),
       told.1,
       search rules,
       λ none. absurd (omega (arith, none)),
       λ _ few.
-          let first = c.start_of-start.ensures.1 turns.1 few in (
-            told.0 ∙ turn_answer _ _ _ _ c.loop-turn.slip _ first _ turns.2 wrote.0,
-            turn_buffer _ _ _ _ c.loop-turn.slip _ first _ _ wrote.1 (λ none. (turns.3 none).1) (λ some. (turns.4 some few).1),
+          let first = c.start_of-start.ensures.1 turns.0 few in (
+            told.0 ∙ turn_answer _ _ _ _ c.loop-turn.slip _ first _ turns.1 wrote.0,
+            turn_buffer _ _ _ _ c.loop-turn.slip _ first _ _ wrote.1 (λ none. (turns.2 none).1) (λ some. (turns.3 some few).1),
           ),
     )
 
@@ -41,10 +37,10 @@ returns c =
     let ended = c.run_log-end.ensures in
     let turns = c.loop-turn.invariant in (
       λ none.
-          let begun = turns.3 (omega (arith, turns.0, none)) in
+          let begun = turns.2 (omega (arith, none)) in
           (begun.0 ∙ rw (← ended, c.if-end-ne0.false), begun.1),
       λ some few.
-          let done = turns.4 (omega (arith, c.loop-turn-test.false, some)) few in
+          let done = turns.3 (omega (arith, c.loop-turn-test.false, some)) few in
           (done.0 ∙ rw (← ended, c.if-end-ne0.false), done.1 ∙ rw (← ended, c.if-end-ne0.false)),
-      turns.2,
+      turns.1,
     )

@@ -17,11 +17,11 @@ step c =
     let set : ℕ = c.args.set in
     fill_next 4 32 c.loop-q.q _ _ _ (digit 2 set) (search rules)
     (λ k. omega (arith, digit_lt 2 set k (search rules))) (omega arith)
-    c.loop-q.invariant.1 c.bit.ensures c.only_stage.ensures
+    c.loop-q.invariant c.bit.ensures c.only_stage.ensures
 
 pub loop-q-init : goal.loop-q-init
 unfolding fill
-loop-q-init c = (search rules, refl)
+loop-q-init c = refl
 
 pub overflow_mul-word : goal.overflow_mul-word
 unfolding fill
@@ -33,11 +33,11 @@ overflow_add-word c = omega (arith, step (goal.at.overflow_add-word c).After-onl
 
 pub loop-q-preserved : goal.loop-q-preserved
 unfolding fill
-loop-q-preserved c = (search rules, (step (goal.at.loop-q-preserved c).After-only_stage).0)
+loop-q-preserved c = (step (goal.at.loop-q-preserved c).After-only_stage).0
 
 pub returns : goal.returns
 returns c =
     let set : ℕ = c.args.set in
     let n : ℕ = c.args.n in
     let all : c.loop-q.q ≡ min n 32 = omega arith in
-    c.loop-q.invariant.1 ∙ rw all (fill_min 4 32 n (digit 2 set) (λ q h. digit_past 2 set 32 q (search rules) h))
+    c.loop-q.invariant ∙ rw all (fill_min 4 32 n (digit 2 set) (λ q h. digit_past 2 set 32 q (search rules) h))

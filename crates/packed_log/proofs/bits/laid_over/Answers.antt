@@ -14,11 +14,6 @@ unfolding over
 overflow_add-result c =
     omega (arith, (fit (goal.at.overflow_add-result c).Start).high, (fit (goal.at.overflow_add-result c).Start).middle, (fit (goal.at.overflow_add-result c).Start).small)
 
-pub nonzero_rem-result : goal.nonzero_rem-result
-unfolding over
-nonzero_rem-result c =
-    omega (arith, (fit (goal.at.nonzero_rem-result c).Start).unit, (fit (goal.at.nonzero_rem-result c).Start).some)
-
 pub overflow_add-result-2 : goal.overflow_add-result-2
 unfolding over
 overflow_add-result-2 c =

@@ -11,6 +11,5 @@ returns-then-width-eq0 c = rw c.if-width-eq0.true (refl, omega arith)
 
 pub returns : goal.returns
 returns c =
-    let known = c.shared_slice_known-1 in
     let read = c.window_at.ensures.0 in
-    (c.part_of.ensures.0 ∙ rw read (field_window _ _ _ (λ i. (known.given i).fits) (omega arith) (omega arith)), c.part_of.ensures.1)
+    (c.part_of.ensures.0 ∙ rw read (field_window _ _ _ (λ i. (c.type_inv.log i).fits) (omega arith) (omega arith)), c.part_of.ensures.1)

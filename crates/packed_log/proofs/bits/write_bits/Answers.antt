@@ -7,7 +7,7 @@ use Rattle.packed_log.proofs.bits.write_bits.Goals as goal
 
 pub returns-then-width-eq0 : goal.returns-then-width-eq0
 unfolding to_bits
-returns-then-width-eq0 c = rw c.if-width-eq0.true (sym (put_none _ _ (λ i. (c.slice_known-1.given i).fits)))
+returns-then-width-eq0 c = rw c.if-width-eq0.true (sym (put_none _ _ (λ i. (c.type_inv.buf i).fits)))
 
 pub returns : goal.returns
 returns c = rw c.write_front.ensures (put_part _ _ _ (λ i. (c.slice_known-1.given i).fits) (omega arith))

@@ -1,5 +1,4 @@
 -- `packed_log::field::is_there`: makes the three tests, the last of them without a sum.
-use borrow.Author.Rules.{rules}
 use borrow.Author.Tests.{le-leb, lt-leb}
 use Rattle.words.specs.Tests.{both, conj}
 use Rattle.words.proofs.Tests.{and_both, both_none, both_all}
@@ -10,10 +9,6 @@ use Rattle.packed_log.proofs.field.is_there.Goals as goal
 pub returns-then-bytes-gt-LONGEST : goal.returns-then-bytes-gt-LONGEST
 unfolding there conj both
 returns-then-bytes-gt-LONGEST c = rw (lt-leb _ _ c.if-bytes-gt-LONGEST.true)
-
-pub overflow_mul-total : goal.overflow_mul-total
-unfolding there conj both
-overflow_mul-total c = search rules
 
 pub returns-then-total-at : goal.returns-then-total-at
 unfolding there conj both

@@ -6,7 +6,10 @@ use Rattle.packed_log.proofs.ItemLaws.{skipping, refused_by, ended_by, stepped_b
 use Rattle.packed_log.proofs.item.skip_kind.Goals as goal
 
 pub returns-then-kind-ge-KINDS : goal.returns-then-kind-ge-KINDS
-returns-then-kind-ge-KINDS c = search skipping depth 12
+returns-then-kind-ge-KINDS c =
+    let a = c.args in
+    let unknown : 28 ≡ first (item_tests a.log.now a.at a.kind) = search skipping depth 12 in
+    refused_by _ _ _ 28 c.requires.0 unknown tt
 
 -- the end, by what skipping it gave
 pub returns-then-kind-eq0 : goal.returns-then-kind-eq0
@@ -19,7 +22,7 @@ pub returns-then-left_of-size : goal.returns-then-left_of-size
 returns-then-left_of-size c =
     let a = c.args in
     let missing : 27 ≡ first (item_tests a.log.now a.at a.kind) = search skipping depth 12 in
-    refused_by _ _ _ 27 _ c.refused-then-left_of-size.ensures c.requires.0 missing tt
+    refused_by _ _ _ 27 c.requires.0 missing tt
 
 -- a step, which nothing refuses
 pub returns : goal.returns

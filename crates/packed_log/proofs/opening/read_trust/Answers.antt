@@ -1,6 +1,5 @@
-use borrow.Author.Rules.{rules}
 use Prim.Native.Nat.{ℕ, ◌+◌, ◌*◌, ◌%◌, ◌^◌, ◌<◌}
-use mathlib.Core.Path.{◌≡◌, refl, ◌∙◌}
+use mathlib.Core.Path.{◌≡◌, refl}
 use native.Mathlib.Omega.{arith}
 use Rattle.words.specs.Digits.{fill}
 use Rattle.packed_log.specs.Openings.{trust_in}
@@ -14,11 +13,11 @@ sum c = c.loop-q.trust + c.read_bits.result * 2 ^ c.loop-q.q % 4294967296
 
 -- that sum is the word with one bit more, and fits
 next : (c : After-read_bits) → (sum c ≡ trust_in c.args.log.now (c.loop-q.q + 1)) × (sum c < 4294967296)
-next c = next_trust _ c.loop-q.q _ _ (omega arith) c.loop-q.invariant.1 c.read_bits.ensures.0
+next c = next_trust _ c.loop-q.q _ _ (omega arith) c.loop-q.invariant c.read_bits.ensures.0
 
 pub loop-q-init : goal.loop-q-init
 unfolding fill
-loop-q-init c = (search rules, refl)
+loop-q-init c = refl
 
 pub overflow_add-trust : goal.overflow_add-trust
 unfolding fill
@@ -26,9 +25,4 @@ overflow_add-trust c = omega (arith, (next (goal.at.overflow_add-trust c).After-
 
 pub loop-q-preserved : goal.loop-q-preserved
 unfolding fill
-loop-q-preserved c = (search rules, (next (goal.at.loop-q-preserved c).After-read_bits).0)
-
-pub returns : goal.returns
-returns c =
-    let end : c.loop-q.q ≡ c.args.n = omega arith in
-    c.loop-q.invariant.1 ∙ rw end
+loop-q-preserved c = (next (goal.at.loop-q-preserved c).After-read_bits).0

@@ -1,11 +1,7 @@
 -- `packed_log::opening::read_trust`: at each turn the word holds the trust bits of the offices below q.
-use Prim.Native.Nat.{◌-◌, ◌≤◌}
 use mathlib.Core.Path.{◌≡◌}
 use Rattle.packed_log.specs.Openings.{trust_in}
 use Rattle.packed_log.proofs.opening.read_trust.Given as goal
 
 abbrev pub invariant-loop-q : goal.invariant-loop-q
-invariant-loop-q l = (l.q ≤ l.n) × (l.trust ≡ trust_in l.log l.q)
-
-abbrev pub decreases-loop-q : goal.decreases-loop-q
-decreases-loop-q l = l.n - l.q
+invariant-loop-q l = l.trust ≡ trust_in l.log l.q

@@ -1,10 +1,6 @@
 -- `packed_log::opening_writing::lay_opening`: each part is laid where the one before it ends.
-use native.Mathlib.Omega.{arith}
 use Rattle.packed_log.proofs.WritingLaws.{put_opening}
 use Rattle.packed_log.proofs.opening_writing.lay_opening.Goals as goal
-
-pub write_leaders-requires : goal.write_leaders-requires
-write_leaders-requires c = (search, (omega arith, omega arith))
 
 pub returns : goal.returns
 returns c = search put_opening depth 3

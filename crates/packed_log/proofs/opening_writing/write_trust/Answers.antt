@@ -1,7 +1,6 @@
 use Rattle.packed_log.specs.Writing.{office_bits}
 use Rattle.packed_log.proofs.BitsLaws.{put_none, length_put}
 use Rattle.packed_log.proofs.WritingLaws.{next_trust_bit}
-use borrow.Author.Rules.{rules}
 use Prim.Native.Nat.{◌<◌}
 use mathlib.Core.Path.{◌≡◌, sym, ap, ◌∙◌}
 use native.Mathlib.Omega.{arith}
@@ -16,11 +15,11 @@ bit c = rw c.bit.ensures (digit_lt 2 _ _ (omega arith))
 
 -- the buffer keeps its length
 long : (c : At-loop-q) → length c.loop-q.buf ≡ length c.args.buf.now
-long c = ap length c.loop-q.invariant.1 ∙ length_put _ _ _
+long c = ap length c.loop-q.invariant ∙ length_put _ _ _
 
 pub loop-q-init : goal.loop-q-init
 unfolding office_bits
-loop-q-init c = (search rules, sym (put_none _ _ (λ i. (c.slice_known-1.given i).fits)))
+loop-q-init c = sym (put_none _ _ (λ i. (c.type_inv.buf i).fits))
 
 pub overflow_cast-bit : goal.overflow_cast-bit
 unfolding office_bits
@@ -33,13 +32,4 @@ write_bits-requires c =
 
 pub loop-q-preserved : goal.loop-q-preserved
 unfolding office_bits
-loop-q-preserved c = (search rules, search next_trust_bit depth 2)
-
-pub shape_of-buf : goal.shape_of-buf
-unfolding office_bits
-shape_of-buf c = long (goal.at.shape_of-buf c).At-loop-q
-
-pub returns : goal.returns
-returns c =
-    let end : c.loop-q.q ≡ c.args.n = omega arith in
-    c.loop-q.invariant.1 ∙ rw end
+loop-q-preserved c = search next_trust_bit depth 2

@@ -1,7 +1,8 @@
--- `closed` is the register of the blank book without offices.
+-- `closed` is the blank register without offices.
+use mathlib.Core.Path.{refl, ◌∙◌}
 use Rattle.register.specs.Opening.{closed}
 use Rattle.register.proofs.opening.closed.Goals as goal
 
 pub returns : goal.returns
 unfolding closed
-returns c = rw (c.register.ensures, c.blank.ensures)
+returns c = c.blank.ensures ∙ refl

@@ -3,6 +3,7 @@ use mathlib.Core.List.{[]}
 use mathlib.Core.Logic.{inl, inr}
 use native.Mathlib.Omega.{arith}
 use Rattle.packed_log.specs.declared.item.Item.{Item}
+use Rattle.register.specs.Limits.{batch}
 use Rattle.register.specs.declared.step.Step.{Step}
 use Rattle.replay.specs.Bodies.{Body, begun, body_at}
 use Rattle.replay.proofs.BodyLaws.{body_read}
@@ -26,14 +27,15 @@ loop-count-init c = gathered_none _ _
 
 pub loop-count-preserved : goal.loop-count-preserved
 loop-count-preserved c =
-    gathered_step _ _ _ _ c.read_item-read.result c.loop-count.invariant c.loop-count-test.true
+    gathered_step _ _ _ _ c.read_item-read.result c.loop-count.invariant (omega arith)
     c.read_item-read.ensures.0 (by_item (goal.at.loop-count-preserved c).After-read_item-read _ c.in-Step.is)
-
-pub returns-after-loop-count : goal.returns-after-loop-count
-returns-after-loop-count c =
-    gathered_part _ _ _ c.loop-count.invariant (inl (omega (arith, c.loop-count.invariant.count, c.loop-count.invariant.few)))
 
 pub returns-in_default : goal.returns-in_default
 returns-in_default c =
     gathered_part _ _ _ c.loop-count.invariant
     (inr (ap (λ (b : Body). b.steps) (by_item (goal.at.returns-in_default c).After-read_item-read _ refl) ∙ closes _ _ c.in_default.not-Step))
+
+pub returns : goal.returns
+returns c =
+    let full : c.loop-count.count ≡ batch = omega arith in
+    gathered_part _ _ _ (rw full at c.loop-count.invariant) (inl refl)

@@ -11,7 +11,7 @@ pub loop-part-preserved : goal.loop-part-preserved
 loop-part-preserved c =
     let turn = c.loop-part in
     let read = c.read_part-part.ensures in
-    let runs = part_ran _ turn.at _ read turn.current _ _ c.steps_of.ensures c.run-ran.ensures in
+    let runs = part_ran _ turn.at _ read turn.current _ c.run_on.ensures in
     rw (part_rest _ turn.at _ read) (run_on turn.current c.read_part-part.result.count _ _ runs ∙ turn.invariant)
 
 pub returns : goal.returns

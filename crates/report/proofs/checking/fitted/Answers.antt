@@ -10,4 +10,4 @@ returns-then-size-report c = rw (le-leb _ _ c.if-size-report.true) (refl, refl)
 
 pub returns : goal.returns
 unfolding choose
-returns c = rw (lt-leb _ _ c.if-size-report.false) (refl, c.clear.ensures)
+returns c = rw (lt-leb _ _ c.if-size-report.false) (refl, c.fill.ensures.after (λ y same. same))

@@ -14,15 +14,15 @@ pub returns-then-not-is_trusted : goal.returns-then-not-is_trusted
 unfolding office_text choose
 returns-then-not-is_trusted c =
     let a = c.args in
-    let none : trusted (book_of a.register) a.q ≡ false = sym c.is_trusted.ensures ∙ c.if-not-is_trusted.true in
+    let none : trusted (book_of a.register.now) a.q ≡ false = sym c.is_trusted.ensures ∙ c.if-not-is_trusted.true in
     (rw none (record { counted = sym (add-zero _); laid = refl }), omega arith)
 
 pub returns : goal.returns
 returns c =
     let a = c.args in
-    let some : trusted (book_of a.register) a.q ≡ true = sym c.is_trusted.ensures ∙ c.if-not-is_trusted.false in
+    let some : trusted (book_of a.register.now) a.q ≡ true = sym c.is_trusted.ensures ∙ c.if-not-is_trusted.false in
     let line = c.write_office_line.ensures in
     let is =
-    office_some a.register a.q _ _ _ some c.final_block-last.ensures c.chain_length-size.ensures
+    office_some a.register.now a.q _ _ _ some c.final_block-last.ensures c.chain_length-size.ensures
     c.notarised-told.ensures in
     (rw is line.0, line.1)

@@ -1,12 +1,10 @@
 use Prim.Native.Nat.{◌+◌, ◌≤◌}
-use mathlib.Core.Path.{◌∙◌}
 use native.Mathlib.Omega.{arith}
 use lib.ListN.{length}
 use Rattle.register.specs.Limits.{batch}
 use Rattle.replay.proofs.BodyLaws.{body_few}
 use Rattle.replay.proofs.PartLaws.{part_count, part_rest, part_fewer, part_ran}
 use Rattle.report.specs.Reports.{most_steps}
-use Rattle.report.proofs.TextLaws.{same_size}
 use Rattle.report.proofs.RunText.{run_begins, run_goes_on, run_ends}
 use Rattle.report.proofs.run.write_run.Goals as goal
 use Rattle.report.proofs.run.write_run.Goals.{After-read_part-part}
@@ -38,12 +36,9 @@ loop-part-preserved c =
     let turn = c.loop-part in
     let read = c.read_part-part.ensures in
     let lines = c.write_batch-next.ensures in
-    let runs = part_ran _ turn.at _ read turn.current _ _ c.steps_of.ensures c.run_on-answers.ensures in
+    let runs = part_ran _ turn.at _ read turn.current _ c.run_on-answers.ensures in
     rw (part_rest _ turn.at _ read)
     (run_goes_on turn.current turn.place _ _ _ (omega (arith, part_count _ turn.at _ read)) runs turn.invariant lines.0 lines.1)
-
-pub shape_of-report : goal.shape_of-report
-shape_of-report c = same_size c.write_offices.ensures.0 ∙ c.loop-part.invariant.sized
 
 pub returns : goal.returns
 returns c =

@@ -4,7 +4,7 @@ use mathlib.Core.Path.{◌≡◌, ◌∙◌}
 use mathlib.Core.List.{[], ◌∷◌}
 use native.Mathlib.Omega.{arith}
 use Rattle.report.specs.Text.{decimal}
-use Rattle.report.proofs.TextLaws.{same_size, last_first, decimal_one, decimal_longer, decimal_some}
+use Rattle.report.proofs.TextLaws.{last_first, decimal_one, decimal_longer, decimal_some}
 use Rattle.report.proofs.text.write_decimal.Goals as goal
 
 pub overflow_sub-place : goal.overflow_sub-place
@@ -26,6 +26,3 @@ pub returns : goal.returns
 returns c =
     let digit : decimal c.loop-rest.rest ≡ (48 + c.loop-rest.rest) ∷ [] = decimal_one _ (omega arith) in
     (record { counted = search rules; laid = c.put_digit-2.ensures ∙ (rw digit at c.loop-rest.invariant.3) }, search rules)
-
-pub shape_of-report : goal.shape_of-report
-shape_of-report c = same_size (returns c).0

@@ -1,16 +1,16 @@
 -- `slip::checking::check_slip`: where there is a refusal it is the answer, else the block's parent is.
+use mathlib.Core.Path.{refl}
+use Rattle.refusals.proofs.Numbers.{number_some}
+use Rattle.register.specs.Books.{book_of}
 use Rattle.slip.proofs.CheckLaws.{refused_by, accepted_by}
 use Rattle.slip.proofs.checking.check_slip.Goals as goal
 
-pub slip_refusal-refusal-requires : goal.slip_refusal-refusal-requires
-slip_refusal-refusal-requires c = c.book-book.ensures.1
+pub returns-in-Ok : goal.returns-in-Ok
+unfolding book_of
+returns-in-Ok c =
+    accepted_by _ (book_of c.args.register) _ _ _ refl c.block_in-b.ensures c.in-Ok.ensures c.parent.result.0 refl c.parent.ensures
 
-pub returns-then-refusal-ne0 : goal.returns-then-refusal-ne0
-returns-then-refusal-ne0 c =
-    refused_by _ c.book-book.result _ _ _ c.book-book.ensures.0 c.block_in-b.ensures c.slip_refusal-refusal.ensures
-    c.if-refusal-ne0.true
-
-pub returns : goal.returns
-returns c =
-    accepted_by _ c.book-book.result _ _ _ c.book-book.ensures.0 c.block_in-b.ensures
-    c.slip_refusal-refusal.ensures _ c.if-refusal-ne0.false c.parent_at-parent.ensures
+pub returns-in-Err : goal.returns-in-Err
+returns-in-Err c =
+    rw c.number.ensures
+    (refused_by _ (book_of c.args.register) _ _ _ refl c.block_in-b.ensures c.in-Err.ensures (number_some c.in-Err.refusal))

@@ -1,22 +1,13 @@
 -- `slip::rows::mirrored`: an office below n counts from the last one on.
-use borrow.Author.Rules.{rules}
 use borrow.Author.Tests.{lt-ltb, le-ltb}
 use Rattle.words.specs.Tests.{choose}
 use Rattle.slip.specs.Rows.{mirror}
 use Rattle.slip.proofs.rows.mirrored.Goals as goal
 
-pub overflow_sub-result : goal.overflow_sub-result
+pub returns-then-office-n : goal.returns-then-office-n
 unfolding mirror choose
-overflow_sub-result c = search rules
+returns-then-office-n c = rw (lt-ltb _ _ c.if-office-n.true)
 
-pub overflow_sub-result-then-q-n : goal.overflow_sub-result-then-q-n
+pub returns-else-office-n : goal.returns-else-office-n
 unfolding mirror choose
-overflow_sub-result-then-q-n c = search rules
-
-pub returns-then-q-n : goal.returns-then-q-n
-unfolding mirror choose
-returns-then-q-n c = rw (lt-ltb _ _ c.if-q-n.true)
-
-pub returns-else-q-n : goal.returns-else-q-n
-unfolding mirror choose
-returns-else-q-n c = rw (le-ltb _ _ c.if-q-n.false)
+returns-else-office-n c = rw (le-ltb _ _ c.if-office-n.false)

@@ -2,4 +2,4 @@
 use Rattle.slip.proofs.rows.rows_of.Goals as goal
 
 pub returns : goal.returns
-returns c = rw (← c.mirrored_all-bits.ensures) c.view_of.ensures
+returns c = rw (← c.mirrored_all-mirror.ensures) c.view.ensures

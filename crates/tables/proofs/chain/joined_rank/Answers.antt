@@ -1,5 +1,4 @@
 -- `tables::chain::joined_rank`: no chain of rank 0 is joined; any other has the blocks passed.
-use native.Mathlib.Omega.{arith}
 use borrow.Author.Tests.{ne_eqb}
 use Rattle.words.specs.Tests.{choose}
 use Rattle.tables.proofs.chain.joined_rank.Goals as goal
@@ -7,10 +6,6 @@ use Rattle.tables.proofs.chain.joined_rank.Goals as goal
 pub returns-then-rank-eq0 : goal.returns-then-rank-eq0
 unfolding choose
 returns-then-rank-eq0 c = rw c.if-rank-eq0.true
-
-pub overflow_sub-result : goal.overflow_sub-result
-unfolding choose
-overflow_sub-result c = omega (arith, c.requires (omega arith))
 
 pub returns : goal.returns
 unfolding choose

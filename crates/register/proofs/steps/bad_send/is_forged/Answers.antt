@@ -3,15 +3,16 @@ use native.Mathlib.Omega.{arith}
 use Prim.Native.Nat.{ℕ, min}
 use mathlib.Core.Path.{◌≡◌, sym, ◌∙◌}
 use Rattle.words.specs.Tests.{both}
+use Rattle.register.specs.Books.{book_of}
 use Rattle.register.proofs.steps.bad_send.is_forged.Goals as goal
 
-pub returns-then-not-trusted_at : goal.returns-then-not-trusted_at
-unfolding both
-returns-then-not-trusted_at c = rw (sym c.trusted_at.ensures ∙ c.if-not-trusted_at.true)
+pub returns-then-not-is_trusted : goal.returns-then-not-is_trusted
+unfolding both book_of
+returns-then-not-is_trusted c = rw (sym c.is_trusted.ensures ∙ c.if-not-is_trusted.true)
 
 pub returns : goal.returns
-unfolding both
+unfolding both book_of
 returns c =
-    let count : ℕ = c.args.scalars.count in
+    let count : ℕ = (book_of c.args.register.now).count in
     let sent : min count 1024 ≡ count = omega arith in
-    rw (sym c.trusted_at.ensures ∙ c.if-not-trusted_at.false, c.in_history.ensures, sent, c.is_vote.ensures)
+    rw (sym c.is_trusted.ensures ∙ c.if-not-is_trusted.false, c.in_history.ensures, sent)

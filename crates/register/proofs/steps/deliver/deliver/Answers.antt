@@ -1,31 +1,28 @@
 -- `deliver` refuses what its tests refuse, and else moves the message.
-use Prim.Native.Nat.{◌<◌}
-use mathlib.Core.Path.{sym, ◌∙◌}
+use borrow.Author.Rules.{rules}
+use mathlib.Core.Path.{◌≡◌, refl, sym}
 use native.Mathlib.Omega.{arith}
 use borrow.Author.Tests.{leb-false}
+use Rattle.std.specs.Prelude.{Err}
+use Rattle.refusals.proofs.Numbers.{number_some}
 use Rattle.words.proofs.Clearing.{clear}
+use Rattle.register.specs.Books.{book_of}
 use Rattle.register.specs.Steps.{rule_of}
 use Rattle.register.specs.Changes.{entries_of}
 use Rattle.register.proofs.Answering.{refuses, accepts}
 use Rattle.register.proofs.steps.deliver.deliver.Goals as goal
-use Rattle.register.proofs.steps.deliver.deliver.Goals.{Else-refusal-ne0}
 
--- the message has been sent, where nothing was refused
-sent : (c : Else-refusal-ne0) → c.args.message.0 < 1024
-sent c =
-    omega (arith, leb-false _ c.args.message.0 (clear _ (sym c.deliver_refusal-refusal.ensures ∙ c.if-refusal-ne0.false)).1.0)
+pub returns-in_err-check_deliver : goal.returns-in_err-check_deliver
+unfolding rule_of entries_of book_of
+returns-in_err-check_deliver c =
+    let is : c.from_residual.result ≡ Err c.in_err-check_deliver.field-0.0 = search rules in
+    rw is (refuses _ _ _ _ c.in_err-check_deliver.ensures (number_some _))
 
-pub returns-then-refusal-ne0 : goal.returns-then-refusal-ne0
-unfolding rule_of entries_of
-returns-then-refusal-ne0 c = c.refused.ensures ∙ refuses _ _ _ _ c.deliver_refusal-refusal.ensures c.if-refusal-ne0.true
-
-pub bounds-places-message : goal.bounds-places-message
-unfolding rule_of entries_of
-bounds-places-message c = sent (goal.at.bounds-places-message c).Else-refusal-ne0
+pub bounds-register-message : goal.bounds-register-message
+unfolding book_of
+bounds-register-message c = omega (arith, leb-false _ c.args.message.0 (clear _ (sym c.in_ok-check_deliver.ensures)).1.0)
 
 pub returns : goal.returns
-unfolding rule_of entries_of
+unfolding rule_of entries_of book_of
 returns c =
-    rw (c.accepted.ensures, c.moved.ensures, c.with_stage-word.ensures)
-    (accepts _ _ _ _ c.deliver_refusal-refusal.ensures
-    c.if-refusal-ne0.false)
+    rw (c.accepted.ensures, c.moved.ensures, c.with_stage-word.ensures) (accepts _ _ _ _ c.in_ok-check_deliver.ensures refl)

@@ -1,31 +1,27 @@
 -- `is_final` makes the tests of the three blocks, and then asks for the chain.
 use borrow.Author.Rules.{rules}
 use Prim.Native.Nat.{◌<◌}
+use mathlib.Core.Path.{ap}
+use mathlib.Core.Bool.{not}
+use Rattle.register.specs.Books.{book_of}
 use Rattle.register.specs.Refusals.{finalises}
 use Rattle.register.proofs.Finalising.{not_final_lem, is_final}
 use Rattle.register.proofs.Answering.{found_notarised}
 use Rattle.register.proofs.steps.finalise.is_final.Goals as goal
-use Rattle.register.proofs.steps.finalise.is_final.Goals.{After-is_notarised_above, Start}
-
--- where the call started, seen from its end
-abbrev start : After-is_notarised_above → Start
-start c = c.before.before.before.before.before.before.before
-
--- blocks' numbers are below 256
-small : (s : Start) → (s.args.base.0 < 256) × (s.args.newest.0 < 256)
-small s = (search rules, search rules)
 
 pub returns-then-not-are_consecutive : goal.returns-then-not-are_consecutive
-unfolding finalises
+unfolding finalises book_of
 returns-then-not-are_consecutive c =
-    not_final_lem _ _ _ _ _ _ c.parent_at.ensures c.parent_at-2.ensures
-    c.are_consecutive.ensures c.if-not-are_consecutive.true-raw
+    not_final_lem (book_of c.args.register.now) _ _ _ _ _ c.parent-c.ensures c.parent-d.ensures c.are_consecutive.ensures
+    (ap not c.if-not-are_consecutive.true)
 
 pub returns : goal.returns
-unfolding finalises
+unfolding finalises book_of
 returns c =
-    is_final _ _ _ _ _ _ c.parent_at.ensures
-    c.parent_at-2.ensures
-    c.are_consecutive.ensures _ c.if-not-are_consecutive.false-raw
-    (found_notarised _ _ _ _ _ (start (goal.at.returns c).After-is_notarised_above).requires.0.messages (start (goal.at.returns c).After-is_notarised_above).requires.0.offices (small (start (goal.at.returns c).After-is_notarised_above)).0 (small (start (goal.at.returns c).After-is_notarised_above)).1 (start (goal.at.returns c).After-is_notarised_above).requires.1 (start (goal.at.returns c).After-is_notarised_above).requires.2
+    let counts = c.requires.0 in
+    let base : c.args.base.0 < 256 = search rules in
+    let newest : c.args.newest.0 < 256 = search rules in
+    is_final (book_of c.args.register.now) _ _ _ _ _ c.parent-c.ensures c.parent-d.ensures c.are_consecutive.ensures _
+    (ap not c.if-not-are_consecutive.false)
+    (found_notarised (book_of c.args.register.now) _ _ _ _ counts.messages counts.offices base newest c.requires.1 c.requires.2
     c.is_notarised_above.ensures)

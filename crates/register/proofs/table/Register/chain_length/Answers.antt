@@ -11,4 +11,4 @@ returns-then-self-b c = rw (lt-leb _ _ c.if-self-b.true)
 
 pub returns : goal.returns
 unfolding book_of choose chain
-returns c = rw (le-leb _ _ c.if-self-b.false, ← c.parent_numbers-parents.ensures.0) c.length_of.ensures
+returns c = rw (le-leb _ _ c.if-self-b.false) c.chain_length.ensures

@@ -1,23 +1,24 @@
--- `Register::final_block`: no office past the table is trusted.
+-- `Register::final_block`: an untrusted office, and one past the table, has genesis.
+use borrow.Author.Rules.{rules}
+use mathlib.Core.Path.{◌≡◌, sym, ◌∙◌}
 use native.Mathlib.Omega.{arith}
-use mathlib.Core.Path.{sym, ◌∙◌}
+use lib.ListN.{length, get_or-eq_default}
 use Rattle.words.specs.Tests.{choose}
-use Rattle.words.proofs.Tests.{both_none}
-use Rattle.words.proofs.Digits.{digit_past}
-use Rattle.tables.specs.Blocks.{trusted_in}
-use Rattle.register.specs.Books.{book_of}
+use Rattle.register.specs.Books.{block, book_of}
 use Rattle.register.proofs.table.Register.final_block.Goals as goal
 
+pub returns-then-not-is_trusted : goal.returns-then-not-is_trusted
+unfolding book_of choose
+returns-then-not-is_trusted c = rw (sym c.is_trusted.ensures ∙ c.if-not-is_trusted.true)
+
 pub returns-then-q-ge-OFFICES : goal.returns-then-q-ge-OFFICES
-unfolding book_of choose trusted_in
+unfolding book_of choose
 returns-then-q-ge-OFFICES c =
     let a = c.args in
-    rw (digit_past 2 a.self.trust 32 a.office.0 (omega arith) c.if-q-ge-OFFICES.true, both_none)
-
-pub returns-then-not-trusted_at : goal.returns-then-not-trusted_at
-unfolding book_of choose
-returns-then-not-trusted_at c = rw (sym c.trusted_at.ensures ∙ c.if-not-trusted_at.true)
+    let whole : length a.self.now.offices ≡ 32 = search rules in
+    rw (sym c.is_trusted.ensures ∙ c.if-not-is_trusted.false)
+    (rw (get_or-eq_default a.self.now.offices (record { finalised = block 0 }) {n = a.office.0} (omega (arith, whole))))
 
 pub returns : goal.returns
 unfolding book_of choose
-returns c = rw (sym c.trusted_at.ensures ∙ c.if-not-trusted_at.false)
+returns c = rw (sym c.is_trusted.ensures ∙ c.if-not-is_trusted.false)

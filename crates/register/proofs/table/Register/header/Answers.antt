@@ -8,10 +8,10 @@ pub returns-then-not-is_made : goal.returns-then-not-is_made
 unfolding book_of
 returns-then-not-is_made c =
     let a = c.args in
-    header_none a.self a.b.0 (sym c.is_made.ensures ∙ c.if-not-is_made.true)
+    header_none a.self.now a.b.0 (sym c.is_made.ensures ∙ c.if-not-is_made.true)
 
 pub returns : goal.returns
 unfolding book_of
 returns c =
     let a = c.args in
-    header_found a.self a.b.0 _ (sym c.is_made.ensures ∙ c.if-not-is_made.false) c.smaller-parent.ensures
+    header_found a.self.now a.b.0 _ (sym c.is_made.ensures ∙ c.if-not-is_made.false) c.parent.ensures

@@ -4,4 +4,4 @@ use Rattle.register.proofs.table.Register.is_trusted.Goals as goal
 
 pub returns : goal.returns
 unfolding book_of
-returns c = c.trusted_at.ensures
+returns c = c.is_trusted.ensures

@@ -8,12 +8,12 @@ use Rattle.register.proofs.table.Register.leader.Goals.{Else-not-is_scheduled}
 
 -- once the test has let it pass, the epoch is from 1 to 256
 within : (c : Else-not-is_scheduled) → (1 ≤ c.args.epoch.0) × (c.args.epoch.0 ≤ 256)
-within c = scheduled c.args.self _ (sym c.is_scheduled.ensures ∙ c.if-not-is_scheduled.false)
+within c = scheduled c.args.self.now _ (sym c.is_scheduled.ensures ∙ c.if-not-is_scheduled.false)
 
 pub returns-then-not-is_scheduled : goal.returns-then-not-is_scheduled
 returns-then-not-is_scheduled c =
     let a = c.args in
-    leader_none a.self a.epoch.0 (sym c.is_scheduled.ensures ∙ c.if-not-is_scheduled.true)
+    leader_none a.self.now a.epoch.0 (sym c.is_scheduled.ensures ∙ c.if-not-is_scheduled.true)
 
 pub overflow_sub-result : goal.overflow_sub-result
 overflow_sub-result c = omega (arith, within (goal.at.overflow_sub-result c).Else-not-is_scheduled)
@@ -24,4 +24,4 @@ bounds-self-epoch c = omega (arith, within (goal.at.bounds-self-epoch c).Else-no
 pub returns : goal.returns
 returns c =
     let a = c.args in
-    leader_found a.self a.epoch.0 (sym c.is_scheduled.ensures ∙ c.if-not-is_scheduled.false)
+    leader_found a.self.now a.epoch.0 (sym c.is_scheduled.ensures ∙ c.if-not-is_scheduled.false)

@@ -13,4 +13,4 @@ pub returns : goal.returns
 unfolding book_of
 returns c =
     let a = c.args in
-    test_by_count (book_of a.self) a.office.0 a.b.0 _ _ c.if-b-eq0.false c.signer_set.ensures c.count_signers-count.ensures
+    test_by_count (book_of a.self.now) a.office.0 a.b.0 _ _ c.if-b-eq0.false c.signer_set.ensures c.count_signers-count.ensures

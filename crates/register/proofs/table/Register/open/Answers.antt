@@ -1,19 +1,21 @@
--- `Register::open` gives the fresh register where the refusal is 0, and else the closed one.
-use mathlib.Core.Path.{sym, ◌∙◌}
-use borrow.Author.Tests.{eq-eqb, ne_eqb}
+-- `Register::open` gives the fresh register where nothing is refused, and else the closed one.
+use mathlib.Core.Path.{sym}
+use borrow.Author.Tests.{ne_eqb}
+use Rattle.refusals.specs.Numbers.{number_of}
+use Rattle.refusals.proofs.Numbers.{number_some}
 use Rattle.words.specs.Tests.{choose}
-use Rattle.register.specs.Opening.{fresh, opening}
+use Rattle.register.specs.Opening.{opening}
 use Rattle.register.proofs.OpeningLaws.{accepted_schedule}
 use Rattle.register.proofs.table.Register.open.Goals as goal
 
-pub fresh_book-requires : goal.fresh_book-requires
-fresh_book-requires c = accepted_schedule _ _ _ (sym c.opening_refusal-refusal.ensures ∙ c.if-refusal-eq0.true)
+pub fresh-requires : goal.fresh-requires
+fresh-requires c = accepted_schedule _ _ _ (sym c.in-Ok.ensures)
 
-pub returns-then-refusal-eq0 : goal.returns-then-refusal-eq0
-unfolding opening choose fresh
-returns-then-refusal-eq0 c =
-    rw (← c.opening_refusal-refusal.ensures, eq-eqb _ _ c.if-refusal-eq0.true, c.register.ensures, c.fresh_book.ensures)
-
-pub returns : goal.returns
+pub returns-in-Ok : goal.returns-in-Ok
 unfolding opening choose
-returns c = rw (← c.opening_refusal-refusal.ensures, ne_eqb _ _ c.if-refusal-eq0.false) (cc)
+returns-in-Ok c = rw (← c.in-Ok.ensures, c.fresh.ensures)
+
+pub returns-in-Err : goal.returns-in-Err
+unfolding opening choose
+returns-in-Err c =
+    rw (c.number.ensures, ← c.in-Err.ensures, ne_eqb (number_of c.in-Err.refusal) 0 (number_some c.in-Err.refusal)) (cc)

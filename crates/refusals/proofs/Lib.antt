@@ -1,0 +1,2 @@
+-- The law of the definitions in specs/.
+pub mod Numbers

@@ -1,8 +1,0 @@
--- `tables::scan::is_made` makes both tests.
-use Rattle.words.proofs.Tests.{and_both}
-use Rattle.tables.specs.Blocks.{made_in}
-use Rattle.tables.proofs.scan.is_made.Goals as goal
-
-pub returns : goal.returns
-unfolding made_in
-returns c = and_both _ _

@@ -1,8 +1,0 @@
--- `tables::scan::trusted_at` makes both tests.
-use Rattle.words.proofs.Tests.{and_both}
-use Rattle.tables.specs.Blocks.{trusted_in}
-use Rattle.tables.proofs.scan.trusted_at.Goals as goal
-
-pub returns : goal.returns
-unfolding trusted_in
-returns c = rw c.has.ensures (and_both _ _)
