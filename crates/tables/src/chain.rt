@@ -1,5 +1,5 @@
 // Chains of blocks, and the search for a longer one.
-ghost use Rattle.std.specs.Prelude.{◌≡◌, true, ◌+◌, ◌-◌, ◌≤◌, ◌<◌, min, eqb, ltb, length, get_or};
+ghost use Rattle.std.specs.Prelude.{◌≡◌, true, ◌+◌, ◌-◌, ◌≤◌, ◌<◌, min, eqb, ltb, length};
 ghost use Rattle.words.specs.Tests.{choose, either};
 ghost use Rattle.tables.specs.Blocks.{parent_in, epoch_in};
 ghost use Rattle.tables.specs.Chains.{chain_by};

@@ -1,5 +1,5 @@
 // An office's view: who signed each block.
-ghost use Rattle.std.specs.Prelude.{◌≡◌, ◌+◌, ◌≤◌, ◌<◌, eqb, get_or, set, MatchOption};
+ghost use Rattle.std.specs.Prelude.{◌≡◌, ◌+◌, ◌<◌, eqb, get_or, set, MatchOption};
 ghost use Rattle.words.specs.Tests.{choose, both};
 ghost use Rattle.words.specs.Digits.{digit, with_member};
 ghost use Rattle.tables.specs.Messages.{view};
