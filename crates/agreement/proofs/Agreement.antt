@@ -8,7 +8,7 @@ use lib.ListN.{length, take, drop, take-append-drop}
 use Rattle.words.specs.Tests.{member}
 use Rattle.register.specs.declared.step.Step.{Step}
 use Rattle.register.specs.declared.table.Register.{Register}
-use Rattle.register.specs.Types.{Book}
+use Rattle.register.specs.declared.book.Book.{Book}
 use Rattle.register.specs.Books.{book_of}
 use Rattle.register.specs.Steps.{book_rule, step_rule}
 use Rattle.register.specs.Runs.{after_steps, Run, opened, moment}

@@ -13,7 +13,7 @@ use Rattle.words.proofs.Tests.{either_cases, either_left, either_right}
 use Rattle.words.proofs.Sums.{tally_below, weigh_more}
 use Rattle.quorum.specs.Enough.{enough}
 use Rattle.quorum.proofs.Enough.{enough_make, enough_least}
-use Rattle.register.specs.Types.{Book}
+use Rattle.register.specs.declared.book.Book.{Book}
 use Rattle.register.specs.Limits.{most_offices}
 use Rattle.register.specs.Views.{signed, ever_signed, notarised}
 use Rattle.register.specs.Chains.{chain_notarised_by, chain_notarised}

@@ -10,7 +10,7 @@ use Rattle.words.specs.Sums.{tally, unit, weigh}
 use Rattle.words.proofs.Tests.{any_at}
 use Rattle.words.proofs.Sums.{always, tally_always}
 use Rattle.quorum.proofs.Quorum.{quorum}
-use Rattle.register.specs.Types.{Book}
+use Rattle.register.specs.declared.book.Book.{Book}
 use Rattle.register.specs.Tables.{trusted, parent_of, epoch_of}
 use Rattle.register.specs.Views.{says, ever_signed}
 use Rattle.register.specs.Chains.{chain, chain_length}

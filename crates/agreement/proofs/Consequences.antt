@@ -8,7 +8,8 @@ use native.Mathlib.Decide.{dec_le}
 use native.Mathlib.Omega.{arith}
 use lib.ListN.{length, get_or, take, drop}
 use lib.Seq.{take-suc, take-add}
-use Rattle.register.specs.Types.{Office, Book}
+use Rattle.register.specs.Types.{Office}
+use Rattle.register.specs.declared.book.Book.{Book}
 use Rattle.register.specs.declared.step.Step.{Step}
 use Rattle.register.specs.declared.table.Register.{Register}
 use Rattle.register.specs.Books.{book_of}

@@ -8,7 +8,7 @@ use native.Mathlib.Decide.{dec_lt}
 use Rattle.words.specs.Sums.{tally}
 use Rattle.words.proofs.Tests.{clash}
 use Rattle.register.specs.declared.table.Content.{Content}
-use Rattle.register.specs.Types.{Book}
+use Rattle.register.specs.declared.book.Book.{Book}
 use Rattle.register.specs.Tables.{trusted, acted, parent_of, epoch_of, content_of, signer_of, about_of, final_of}
 use Rattle.register.specs.Chains.{chain_length, chain_notarised}
 use Rattle.register.proofs.Accepted.{trusted_below}

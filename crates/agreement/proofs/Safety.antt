@@ -12,7 +12,7 @@ use Rattle.words.proofs.Tests.{both_left, both_right, both_false, any_none}
 use Rattle.words.proofs.Sums.{tally_past, tally_not}
 use Rattle.tables.specs.Blocks.{trusted_in}
 use Rattle.tables.specs.Messages.{says_in}
-use Rattle.register.specs.Types.{Book}
+use Rattle.register.specs.declared.book.Book.{Book}
 use Rattle.register.specs.Limits.{most_offices}
 use Rattle.register.specs.Tables.{trusted, acted, parent_of, epoch_of, signer_of, about_of, final_of}
 use Rattle.register.specs.Views.{says}

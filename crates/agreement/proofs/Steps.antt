@@ -15,7 +15,8 @@ use Rattle.words.specs.Digits.{digit}
 use Rattle.words.proofs.Tests.{both_right, either_left, either_right, any_at}
 use Rattle.words.proofs.Digits.{member_put}
 use Rattle.tables.specs.Messages.{history_in}
-use Rattle.register.specs.Types.{Office, Block, Message, Kind, Header, Book}
+use Rattle.register.specs.Types.{Office, Block, Message, Kind, Header}
+use Rattle.register.specs.declared.book.Book.{Book}
 use Rattle.register.specs.declared.step.Step.{Step}
 use Rattle.register.specs.declared.table.Content.{Content}
 use Rattle.register.specs.declared.table.OfficeState.{OfficeState}

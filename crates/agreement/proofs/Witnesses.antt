@@ -5,7 +5,8 @@ use mathlib.Core.Bool.{true}
 use mathlib.Core.List.{List}
 use native.Mathlib.Omega.{arith}
 use lib.ListN.{length}
-use Rattle.register.specs.Types.{Office, Block, Book}
+use Rattle.register.specs.Types.{Office, Block}
+use Rattle.register.specs.declared.book.Book.{Book}
 use Rattle.register.specs.declared.step.Step.{Step}
 use Rattle.register.specs.Books.{book_of}
 use Rattle.register.specs.Tables.{trusted, final_of}

@@ -15,7 +15,7 @@ use Rattle.words.proofs.Refusals.{positive, Clear, first_clear}
 use Rattle.words.proofs.Sums.{tally_ext}
 use Rattle.quorum.specs.Opening.{untrusted, opening_refusal}
 use Rattle.register.specs.declared.table.Register.{Register}
-use Rattle.register.specs.Types.{Book}
+use Rattle.register.specs.declared.book.Book.{Book}
 use Rattle.register.specs.Books.{book_of}
 use Rattle.register.specs.Opening.{leader_table, blank, fresh_book, fresh, opening}
 use Rattle.register.proofs.Typing.{book_register}

@@ -36,17 +36,16 @@ fn count_untrusted(n: u8, trust: u32) -> u32
     n as u32 - words::members(trust, n)
 }
 
-// Some leader of the schedule is no office. The rule goes by the numbers of the epochs, and so do the laws of such loops; `iter().any` would need laws of lists
-// beside them.
+// Some leader of the schedule is no office. The loop has no branch, so that many entries are compared at once. The rule goes by the numbers of the epochs, and
+// so do the laws of such loops; `iter().any` would need laws of lists beside them, and would leave at the first hit.
 fn has_stray(n: u8, schedule: &[u8]) -> bool
     ensures { result ≡ stray n schedule.now }
 {
+    let mut found = false;
     for leader in schedule {
-        if *leader >= n {
-            return true;
-        }
+        found = found | (*leader >= n);
     }
-    false
+    found
 }
 
 // What the opening is refused with.

@@ -1,5 +1,6 @@
 -- The laws of the definitions in specs/, by topic.
 pub mod Typing
+pub mod Turning
 pub mod Tables
 pub mod Chains
 pub mod Finalising

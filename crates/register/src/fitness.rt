@@ -4,6 +4,7 @@ ghost use Rattle.words.specs.Tests.{either, conj, all};
 ghost use Rattle.tables.specs.Blocks.{trusted_in};
 ghost use Rattle.tables.specs.Columns.{office_number, parents_of, epochs_of, signers_of, about_of};
 ghost use Rattle.register.specs.Limits.{most_offices, most_epochs, most_messages};
+ghost use Rattle.register.specs.Types.{Book};
 ghost use Rattle.register.specs.Books.{book_of};
 ghost use Rattle.register.specs.Tables.{state_in};
 ghost use Rattle.register.specs.Fitness.{counts_fit, block_fits, message_fits, state_fits, tables_fit, fit};
@@ -14,21 +15,34 @@ use crate::limits::{EPOCHS, MOST_BLOCKS, MOST_MESSAGES, OFFICES, WIDEST_EPOCH};
 use crate::table::{OfficeState, Register};
 use tables::{Block, Blocks, Epoch, Messages, Office};
 
-// The single numbers are in their ranges.
+// The single numbers of a book are in their ranges.
+pub(crate) fn numbers_fit(n: u8, scheduled: u16, epoch: Epoch, last: Block, count: u16) -> bool
+    ensures { (b : Book) → b.n ≡ n → b.scheduled ≡ scheduled → b.epoch ≡ epoch → b.last ≡ last → b.count ≡ count → result ≡ counts_fit b }
+{
+    let scheduled = scheduled as usize;
+    words::between(1, OFFICES, n as usize)
+        & words::between(1, EPOCHS, scheduled)
+        & words::between(1, scheduled, epoch.0 as usize)
+        & (last.0 as u16 <= MOST_BLOCKS)
+        & (count <= MOST_MESSAGES)
+}
+
+// The single numbers of a register are in their ranges.
 fn counts_fit(register: &Register) -> bool
     ensures { result ≡ counts_fit (book_of register.now) }
 {
-    let scheduled = register.scheduled as usize;
-    words::between(1, OFFICES, register.n as usize)
-        & words::between(1, EPOCHS, scheduled)
-        & words::between(1, scheduled, register.epoch.0 as usize)
-        & (register.blocks.last.0 as u16 <= MOST_BLOCKS)
-        & (register.messages.count <= MOST_MESSAGES)
+    numbers_fit(
+        register.n,
+        register.scheduled,
+        register.epoch,
+        register.blocks.last,
+        register.messages.count,
+    )
 }
 
 // Each number below `size` passes the test, where p says of each what the test does. The loop has no branch, so that many entries of a column are
 // compared at once.
-fn all_pass<F: Fn(usize) -> bool>(size: usize, test: F) -> bool
+pub(crate) fn all_pass<F: Fn(usize) -> bool>(size: usize, test: F) -> bool
     requires { (i : ℕ) → i < size → F.pre test i }
     ensures { (p : ℕ → Bool) → ((i : ℕ) → i < size → (t : Bool) → F.post test i t → t ≡ p i) → result ≡ all size p }
 {
@@ -48,7 +62,7 @@ fn leaders_fit(leaders: &[Office; EPOCHS], scheduled: usize, n: u8) -> bool
 }
 
 // A block has a smaller parent, and an epoch up to 511.
-fn block_fits(b: u8, parent: Block, epoch: Epoch) -> bool
+pub(crate) fn block_fits(b: u8, parent: Block, epoch: Epoch) -> bool
     ensures { result ≡ block_fits b parent.0 epoch.0 }
 {
     (parent.0 < b) & (epoch.0 <= WIDEST_EPOCH)
@@ -66,7 +80,7 @@ fn blocks_fit(blocks: &Blocks) -> bool
 }
 
 // A message has an office for its signer and a block that has been made, genesis excepted.
-fn message_fits(n: u8, last: Block, signer: Office, about: Block) -> bool
+pub(crate) fn message_fits(n: u8, last: Block, signer: Office, about: Block) -> bool
     ensures { result ≡ message_fits n last.0 signer.0 about.0 }
 {
     (signer.0 < n) & ((1 <= about.0) & (about.0 <= last.0))
@@ -92,7 +106,7 @@ fn state_fits(last: Block, state: OfficeState) -> bool
 }
 
 // So does what every trusted office holds.
-fn offices_fit(offices: &[OfficeState; OFFICES], n: u8, trust: u32, last: Block) -> bool
+pub(crate) fn offices_fit(offices: &[OfficeState; OFFICES], n: u8, trust: u32, last: Block) -> bool
     requires { n ≤ most_offices }
     ensures { result ≡ all n (λ q. either (not (trusted_in n trust q)) (state_fits last.0 (state_in offices.now q))) }
 {

@@ -2,6 +2,7 @@
 #![tactic(auto)]
 
 mod actor;
+mod book;
 mod change;
 mod entries;
 mod fitness;
@@ -15,6 +16,7 @@ pub mod step;
 mod steps;
 pub mod table;
 
+pub use book::Book;
 pub use sorts::{Block, Epoch, Kind, Message, Office, Stage};
 pub use step::Step;
 pub use steps::are_consecutive;

@@ -1,4 +1,5 @@
 use crate::limits::{BATCH, EPOCHS, OFFICES};
+pub use tables::Header;
 use tables::{Block, Blocks, Epoch, Kind, Messages, Office};
 
 // What a message says.

@@ -1,10 +1,15 @@
 -- The parts in which the steps of a log are read, to be run by batches.
-use Rattle.std.specs.Prelude.{ℕ, zero, suc, ◌-◌, min, List, ◌++◌, length, take, replicate}
+use Rattle.std.specs.Prelude.{ℕ, zero, suc, ◌-◌, min, List, ◌++◌, map, length, take, replicate}
 use Rattle.register.specs.declared.step.Step.{Step}
 use Rattle.register.specs.Limits.{batch}
 use Rattle.packed_log.specs.Items.{item_at}
+use Rattle.replay.specs.declared.body.Slot.{Slot}
 use Rattle.replay.specs.declared.body.Part.{Part}
 use Rattle.replay.specs.Bodies.{body_at}
+
+-- the steps in some slots
+unfoldable pub steps_of : List Slot → List Step
+steps_of slots = map (λ (s : Slot). s.step) slots
 
 -- a batch that begins with some steps; behind them it holds an advance at each place
 unfoldable pub filled : List Step → List Step

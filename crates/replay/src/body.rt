@@ -3,7 +3,7 @@ ghost use Rattle.std.specs.Prelude.{◌≡◌, eqb};
 ghost use Rattle.refusals.specs.Numbers.{outcome};
 ghost use Rattle.words.specs.Tests.{choose};
 ghost use Rattle.replay.specs.Bodies.{body_at};
-ghost use Rattle.replay.specs.Parts.{part_at};
+ghost use Rattle.replay.specs.Parts.{steps_of, part_at};
 
 use packed_log::item::skip_item;
 use packed_log::{Item, read_item};
@@ -65,4 +65,17 @@ pub fn read_part(log: &[u8], at: usize) -> Part
         count: BATCH,
         next,
     }
+}
+
+// A place for one step, for makers who keep their steps so.
+#[derive(Clone, Copy, PartialEq, Eq, Debug)]
+pub struct Slot {
+    pub step: Step,
+}
+
+// The steps in some slots, as a batch to run.
+pub fn steps_of(slots: [Slot; BATCH]) -> Batch
+    ensures { result ≡ steps_of slots }
+{
+    slots.map(|slot| slot.step)
 }

@@ -2,7 +2,7 @@
 use Prim.Native.Nat.{ℕ, ◌≤◌}
 use mathlib.Core.Path.{◌≡◌, refl, ◌∙◌}
 use mathlib.Core.Bool.{Bool, true, false}
-use mathlib.Core.List.{List, ◌++◌}
+use mathlib.Core.List.{List, [], ◌∷◌, ◌++◌}
 use native.Mathlib.Nat.{zero-add}
 use native.Mathlib.Omega.{arith}
 use borrow.Author.Tests.{eq-eqb, ne_eqb, leb-true, le-leb}
@@ -10,9 +10,10 @@ use lib.Dec.{leb}
 use lib.ListN.{length, take, drop, replicate, length-append}
 use lib.Seq.{take_at}
 use Rattle.words.specs.Tests.{choose}
-use Rattle.packed_log.specs.Openings.{opening_in}
+use Rattle.words.specs.Refusals.{first}
+use Rattle.packed_log.specs.Openings.{opened_by, opening_in}
 use Rattle.replay.specs.Bodies.{body_of, fault_of}
-use Rattle.report.specs.Text.{TextWritten}
+use Rattle.report.specs.Text.{TextWritten, log_line, empty_line}
 use Rattle.report.specs.Reports.{run_lines, fault_line, report_of, given_length, buffer_after}
 use Rattle.report.proofs.TextLaws.{same_size, sets_front}
 
@@ -20,6 +21,22 @@ use Rattle.report.proofs.TextLaws.{same_size, sets_front}
 pub report_refused : (log : List ℕ) (fault : ℕ) → fault ≡ fault_of log → (fault ≡ 0 → ⊥) → report_of log ≡ fault_line log fault
 unfolding report_of choose
 report_refused log fault same bad = rw (← same, ne_eqb fault 0 bad)
+
+-- that line has its number, where the log has bytes
+pub line_some : (log : List ℕ) (fault : ℕ) → (length log ≡ 0 → ⊥) → fault_line log fault ≡ log_line fault
+unfolding fault_line choose
+line_some log fault some = rw (ne_eqb (length log) 0 some)
+
+-- the opening of a log of no bytes is cut
+pub opening_cut : (opening_in []).refusal ≡ 27
+unfolding opening_in opened_by choose first
+opening_cut = refl
+
+-- so the log has a fault, and with no bytes the line `empty`
+pub report_none : (log : List ℕ) → length log ≡ 0 → report_of log ≡ empty_line
+unfolding report_of fault_line fault_of choose
+report_none [] none = rw opening_cut
+report_none (byte ∷ more) none = absurd (omega arith)
 
 -- a log that is not refused has the lines of its steps and of the offices as its report
 pub report_run : (log : List ℕ) → fault_of log ≡ 0 → report_of log ≡ run_lines (opening_in log).register 1 (body_of log).steps

@@ -9,30 +9,18 @@ use Rattle.words.specs.Tests.{choose}
 use Rattle.words.specs.Refusals.{first}
 use Rattle.packed_log.specs.declared.item.Item.{Item}
 use Rattle.packed_log.specs.Items.{left, skipped_at, read, with_fields, item_at}
-use Rattle.packed_log.specs.Openings.{opened_by, opening_in}
-use Rattle.replay.specs.Bodies.{fault_of}
 use Rattle.replay.specs.Claims.{case_of, ReadsHaveNoFault}
 use Rattle.replay.proofs.Claims.{reads_have_no_fault}
 use Rattle.report.specs.Text.{empty_line}
-use Rattle.report.specs.Reports.{fault_line, report_of}
+use Rattle.report.specs.Reports.{report_of}
 use Rattle.report.specs.Claims.{RunsAreReported, NoLogYet}
-use Rattle.report.proofs.CheckLaws.{report_run}
+use Rattle.report.proofs.CheckLaws.{opening_cut, report_none, report_run}
 use Rattle.report.proofs.EmptyLaws.{other_report}
 
 -- the report of a log that reads is that of its run
 pub runs_are_reported : RunsAreReported
 unfolding RunsAreReported ReadsHaveNoFault
 runs_are_reported log held = report_run log (reads_have_no_fault log (case_of held.run) held.reads) ∙ rw (held.opens, held.steps)
-
--- the opening of a log of no bytes is cut
-opening_cut : (opening_in []).refusal ≡ 27
-unfolding opening_in opened_by choose first
-opening_cut = refl
-
--- so the log has a fault, and with no bytes the line `empty`
-empty_reported : report_of [] ≡ empty_line
-unfolding report_of fault_line fault_of choose
-empty_reported = rw opening_cut
 
 -- no other log has it
 empty_alone : (log : List ℕ) → report_of log ≡ empty_line → log ≡ []
@@ -45,6 +33,6 @@ item_cut : (log : List ℕ) (p : ℕ) → length log ≤ 65536 → 8 * length lo
 unfolding item_at with_fields skipped_at first choose
 item_cut log p short past = rw (le-ltb 65536 (length log) short, lt-ltb (left log p) 4 (omega arith))
 
--- the claim of a log of no bytes, from these four
+-- the claim of a log of no bytes, from these
 pub no_log_yet : NoLogYet
-no_log_yet = record { reported = empty_reported; alone = empty_alone; opening = opening_cut; item = item_cut }
+no_log_yet = record { reported = report_none [] refl; alone = empty_alone; opening = opening_cut; item = item_cut }

@@ -11,7 +11,7 @@ use lib.Dec.{eqb}
 use Rattle.words.specs.Tests.{choose}
 use Rattle.words.specs.Sums.{weigh, unit, tally}
 use Rattle.register.specs.declared.table.Register.{Register}
-use Rattle.register.specs.Types.{Book}
+use Rattle.register.specs.declared.book.Book.{Book}
 use Rattle.register.specs.Books.{book_of}
 use Rattle.register.specs.Tables.{trusted, final_of}
 use Rattle.register.specs.Views.{signers_on}

@@ -4,7 +4,7 @@ use Rattle.words.specs.Tests.{choose}
 use Rattle.register.specs.declared.step.Step.{Step}
 use Rattle.register.specs.declared.table.Register.{Register}
 use Rattle.register.specs.declared.table.Stepped.{Stepped}
-use Rattle.register.specs.Types.{Book}
+use Rattle.register.specs.declared.book.Book.{Book}
 use Rattle.register.specs.Books.{book_of}
 use Rattle.register.specs.Tables.{trusted, final_of}
 use Rattle.register.specs.Views.{signers_on}

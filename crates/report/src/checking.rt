@@ -2,7 +2,7 @@
 ghost use Rattle.std.specs.Prelude.{◌≡◌, ◌≤◌, leb, length, replicate};
 ghost use Rattle.words.specs.Tests.{choose};
 ghost use Rattle.report.specs.Text.{TextWritten};
-ghost use Rattle.report.specs.Reports.{fault_line, report_of, report_bound, given_length, buffer_after};
+ghost use Rattle.report.specs.Reports.{report_of, report_bound, given_length, buffer_after};
 
 use crate::run::write_run;
 use crate::text::{write_empty_line, write_log_line};
@@ -24,28 +24,21 @@ fn fitted(report: &mut [u8], size: usize) -> usize
     0
 }
 
-// Writes the one line of a log that does not read: the word `empty` where it has no bytes, else its number, as `Opening` has it.
-fn write_fault_line(report: &mut [u8], log: &[u8], fault: u8) -> usize
-    ensures { TextWritten report.old 0 (fault_line log.now fault) result report.new
+// Writes the report of a log. It hands on the bound that `check` promises, as `write_run` does. A log of no bytes is told by its length, before a register is
+// made for it.
+fn write_report(report: &mut [u8], log: &[u8]) -> usize
+    ensures { TextWritten report.old 0 (report_of log.now) result report.new
         × (result ≤ report_bound (length log.now)) }
 {
     if log.len() == 0 {
         return write_empty_line(report, 0);
     }
-    write_log_line(report, 0, fault)
-}
-
-// Writes the report of a log. Like `write_fault_line` and `write_run` it hands on the bound that `check` promises.
-fn write_report(report: &mut [u8], log: &[u8]) -> usize
-    ensures { TextWritten report.old 0 (report_of log.now) result report.new
-        × (result ≤ report_bound (length log.now)) }
-{
-    let opening = read_opening(log);
+    let mut opening = read_opening(log);
     let fault = fault_of(log, opening.refusal, opening.next);
     if fault != 0 {
-        return write_fault_line(report, log, fault);
+        return write_log_line(report, 0, fault);
     }
-    write_run(report, log, opening.next, opening.register)
+    write_run(report, log, opening.next, &mut opening.register)
 }
 
 // Checks a log, writes the report into the buffer and gives its length. Where it does not fit, that is 0, as C gets it, and the buffer is all zero. The

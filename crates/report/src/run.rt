@@ -8,12 +8,17 @@ use crate::lines::{write_batch, write_offices};
 use register::Register;
 use replay::body::read_part;
 
-// Writes the lines of the steps that stand from position `from` on, run from that register, and then those of the offices.
-pub(crate) fn write_run(report: &mut [u8], log: &[u8], from: usize, register: Register) -> usize
-    ensures { TextWritten report.old 0 (run_lines register 1 (body_at log.now from).steps) result report.new
+// Writes the lines of the steps that stand from position `from` on, run from that register, and then those of the offices. The register is lent, and changed
+// in place: neither time nor stack goes into a second one.
+pub(crate) fn write_run(
+    report: &mut [u8],
+    log: &[u8],
+    from: usize,
+    register: &mut Register,
+) -> usize
+    ensures { TextWritten report.old 0 (run_lines register.old 1 (body_at log.now from).steps) result report.new
         × (result ≤ report_bound (length log.now)) }
 {
-    let mut current = register;
     let mut at = from;
     let mut place = 1;
     let mut next = 0;
@@ -23,7 +28,7 @@ pub(crate) fn write_run(report: &mut [u8], log: &[u8], from: usize, register: Re
         if count == 0 {
             break;
         }
-        let answers = current.run_on(part.steps, count);
+        let answers = register.run_on(part.steps, count);
         next = write_batch(
             report,
             next,
@@ -35,5 +40,5 @@ pub(crate) fn write_run(report: &mut [u8], log: &[u8], from: usize, register: Re
         place += count;
         at = part.next;
     }
-    write_offices(report, next, &current)
+    write_offices(report, next, register)
 }

@@ -16,7 +16,7 @@ use Rattle.quorum.specs.Enough.{enough}
 use Rattle.tables.specs.Chains.{chain_by}
 use Rattle.tables.specs.Searches.{view_in}
 use Rattle.tables.proofs.Chains.{parent_in_lt}
-use Rattle.register.specs.Types.{Book}
+use Rattle.register.specs.declared.book.Book.{Book}
 use Rattle.register.specs.Books.{block}
 use Rattle.register.specs.Tables.{parent_of, epoch_of}
 use Rattle.register.specs.Views.{ever_signed}

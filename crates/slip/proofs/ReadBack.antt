@@ -21,7 +21,7 @@ use Rattle.words.proofs.Clearing.{clear}
 use Rattle.words.proofs.Refusals.{first_before}
 use Rattle.words.proofs.Turns.{skip, none as nothing}
 use Rattle.tables.proofs.Chains.{parent_in_lt, climb_induction}
-use Rattle.register.specs.Types.{Book}
+use Rattle.register.specs.declared.book.Book.{Book}
 use Rattle.register.specs.Books.{block, book_of}
 use Rattle.register.specs.Tables.{parent_of}
 use Rattle.register.specs.Views.{signed, signers, signer_set, notarised}

@@ -12,7 +12,7 @@ use Rattle.words.proofs.Tests.{any_same}
 use Rattle.words.proofs.Digits.{in_set_lem}
 use Rattle.tables.specs.Searches.{signed_in, signers_in, view_in}
 use Rattle.tables.proofs.Views.{view_entry}
-use Rattle.register.specs.Types.{Book}
+use Rattle.register.specs.declared.book.Book.{Book}
 use Rattle.register.specs.Tables.{trusted}
 use Rattle.register.specs.Views.{signed, ever_signed}
 use Rattle.register.proofs.Ranges.{Ranges}

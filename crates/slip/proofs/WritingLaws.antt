@@ -23,7 +23,7 @@ use Rattle.words.proofs.Turns.{hit, skip, none as nothing}
 use Rattle.tables.specs.Chains.{chain_by}
 use Rattle.tables.specs.Searches.{view_in}
 use Rattle.tables.proofs.Chains.{Down, parent_in_lt, chain_by_genesis, chain_by_step, climb_induction}
-use Rattle.register.specs.Types.{Book}
+use Rattle.register.specs.declared.book.Book.{Book}
 use Rattle.register.specs.Tables.{trusted, parent_of}
 use Rattle.register.specs.Views.{signed, signs, signer_set}
 use Rattle.register.specs.Chains.{chain}

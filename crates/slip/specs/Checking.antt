@@ -4,7 +4,7 @@ use Rattle.words.specs.Tests.{choose, either, all, every}
 use Rattle.words.specs.Sums.{tally}
 use Rattle.words.specs.Refusals.{Refusal, ◌⇒◌, first}
 use Rattle.quorum.specs.Enough.{enough}
-use Rattle.register.specs.Types.{Book}
+use Rattle.register.specs.declared.book.Book.{Book}
 use Rattle.register.specs.Books.{block}
 use Rattle.register.specs.Tables.{parent_of}
 use Rattle.register.specs.Views.{ever_signed}

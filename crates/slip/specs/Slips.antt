@@ -2,7 +2,7 @@
 -- these zero bits to the byte's end. A set bit: this office signed that block. The bits go in the log's order, without gaps.
 use Rattle.std.specs.Prelude.{ℕ, ◌+◌, ◌*◌, ◌-◌, Bool, false, List, leb, length, get_or}
 use Rattle.words.specs.Tests.{both}
-use Rattle.register.specs.Types.{Book}
+use Rattle.register.specs.declared.book.Book.{Book}
 use Rattle.register.specs.Chains.{chain_length}
 use Rattle.packed_log.specs.Bits.{bits, field}
 use Rattle.packed_log.specs.Items.{padded}

@@ -2,7 +2,7 @@
 use Rattle.std.specs.Prelude.{ℕ, ◌*◌, ◌-◌, ◌/◌, ◌%◌, Bool, false, not, List, [], ◌∷◌, ◌++◌, eqb, ltb, length, replicate}
 use Rattle.words.specs.Tests.{choose}
 use Rattle.words.specs.Refusals.{Refusal, ◌⇒◌, first}
-use Rattle.register.specs.Types.{Book}
+use Rattle.register.specs.declared.book.Book.{Book}
 use Rattle.register.specs.Views.{signer_set}
 use Rattle.register.specs.Chains.{chain}
 use Rattle.register.specs.Refusals.{no_office, no_block, barred, not_final}

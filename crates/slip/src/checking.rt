@@ -126,10 +126,13 @@ pub fn check_slip(register: Register, slip: &[u8]) -> Checked
 {
     let b = block_in(slip);
     match check_named(&register, slip, b) {
-        Ok(()) => Checked {
-            refusal: 0,
-            block: register.blocks.parent(b),
-        },
+        Ok(()) => {
+            let parent = register.blocks.parent(b);
+            Checked {
+                refusal: 0,
+                block: parent,
+            }
+        }
         Err(refusal) => Checked {
             refusal: refusal.number(),
             block: Block(0),

@@ -7,7 +7,8 @@ use borrow.Author.Tests.{ltb-false, not-false}
 use Rattle.words.specs.Tests.{choose, every, member}
 use Rattle.words.proofs.Tests.{implied, all_at, every_at}
 use Rattle.words.proofs.Clearing.{clear}
-use Rattle.register.specs.Types.{Block, Book}
+use Rattle.register.specs.Types.{Block}
+use Rattle.register.specs.declared.book.Book.{Book}
 use Rattle.register.specs.Books.{book_of}
 use Rattle.register.specs.Tables.{parent_of}
 use Rattle.register.specs.Views.{ever_signed}

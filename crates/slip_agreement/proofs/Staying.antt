@@ -13,7 +13,7 @@ use Rattle.words.proofs.Tests.{both_left, both_right, both_make, implied, implie
 use Rattle.words.proofs.Sums.{tally_ext}
 use Rattle.words.proofs.Turns.{skip, none}
 use Rattle.quorum.specs.Enough.{enough}
-use Rattle.register.specs.Types.{Book}
+use Rattle.register.specs.declared.book.Book.{Book}
 use Rattle.register.specs.Books.{block, book_of}
 use Rattle.register.specs.Tables.{parent_of, epoch_of}
 use Rattle.register.specs.Views.{ever_signed}

@@ -11,7 +11,7 @@ use Rattle.quorum.specs.Opening.{untrusted, too_many, stray, opening_refusal}
 use Rattle.tables.specs.Blocks.{trusted_in, made_in, parent_in, epoch_in, matches_in, named_in}
 use Rattle.tables.specs.Messages.{says_in}
 use Rattle.tables.specs.Chains.{climb, chain_by}
-use Rattle.register.specs.Types.{Book}
+use Rattle.register.specs.declared.book.Book.{Book}
 use Rattle.register.specs.Books.{office, block, is_vote, kind_of, book_of, register_of}
 use Rattle.register.specs.Views.{stage, signed, ever_signed, signer_set, notarised}
 use Rattle.register.specs.Chains.{chain, chain_notarised_by, longest}

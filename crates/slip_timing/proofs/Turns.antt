@@ -14,7 +14,7 @@ use Rattle.words.specs.Tests.{choose}
 use Rattle.words.specs.Refusals.{Refusal, ◌⇒◌}
 use Rattle.words.proofs.Tests.{decided}
 use Rattle.words.proofs.Clearing.{clear}
-use Rattle.register.specs.Types.{Book}
+use Rattle.register.specs.declared.book.Book.{Book}
 use Rattle.packed_log.specs.Bits.{bits, put}
 use Rattle.packed_log.specs.Writing.{laid}
 use Rattle.packed_log.proofs.BitsLaws.{length_bits, put_pack, length_put, bits_put}

@@ -193,11 +193,6 @@ module _ (p : ℕ → Bool) (i : ℕ) (so_far t : Bool) where
   unfolding any
   any_next h e = rw (h, e, or_either, add-one)
 
--- a loop that leaves at the first number that passes: its next turn, where none has passed
-pub none_next : (p : ℕ → Bool) (i : ℕ) → any i p ≡ false → p i ≡ false → any (i + 1) p ≡ false
-unfolding any either
-none_next p i none miss = rw (add-one, none) miss
-
 -- the code's `&` of four tests
 pub and_four : (a b c d : Bool) → a && b && c && d ≡ conj (a ∷ b ∷ c ∷ d ∷ [])
 unfolding conj both

@@ -36,9 +36,9 @@ loop-part-preserved c =
     let turn = c.loop-part in
     let read = c.read_part-part.ensures in
     let lines = c.write_batch-next.ensures in
-    let runs = part_ran _ turn.at _ read turn.current _ c.run_on-answers.ensures in
+    let runs = part_ran _ turn.at _ read turn.register _ c.run_on-answers.ensures in
     rw (part_rest _ turn.at _ read)
-    (run_goes_on turn.current turn.place _ _ _ (omega (arith, part_count _ turn.at _ read)) runs turn.invariant lines.0 lines.1)
+    (run_goes_on turn.register turn.place _ _ _ (omega (arith, part_count _ turn.at _ read)) runs turn.invariant lines.0 lines.1)
 
 pub returns : goal.returns
 returns c =

@@ -6,7 +6,7 @@ use Rattle.report.proofs.RunText.{SoFar}
 use Rattle.report.proofs.run.write_run.Given as goal
 
 abbrev pub invariant-loop-part : goal.invariant-loop-part
-invariant-loop-part l = SoFar (most_steps (length l.log)) l.initial.report l.report (run_lines l.initial.current 1 (body_at l.log l.from).steps) l.next l.place l.current (body_at l.log l.at).steps
+invariant-loop-part l = SoFar (most_steps (length l.log)) l.initial.report l.report (run_lines l.initial.register 1 (body_at l.log l.from).steps) l.next l.place l.register (body_at l.log l.at).steps
 
 abbrev pub decreases-loop-part : goal.decreases-loop-part
 decreases-loop-part l = length (body_at l.log l.at).steps

@@ -8,7 +8,7 @@ use Rattle.slip.proofs.checking.check_slip.Goals as goal
 pub returns-in-Ok : goal.returns-in-Ok
 unfolding book_of
 returns-in-Ok c =
-    accepted_by _ (book_of c.args.register) _ _ _ refl c.block_in-b.ensures c.in-Ok.ensures c.parent.result.0 refl c.parent.ensures
+    accepted_by _ (book_of c.args.register) _ _ _ refl c.block_in-b.ensures c.in-Ok.ensures c.parent-parent.result.0 refl c.parent-parent.ensures
 
 pub returns-in-Err : goal.returns-in-Err
 returns-in-Err c =

@@ -7,7 +7,7 @@ use mathlib.Core.List.{[], ◌∷◌}
 use native.Mathlib.Omega.{arith}
 use Rattle.words.specs.Refusals.{◌⇒◌, first}
 use Rattle.words.proofs.Turns.{turns, hit, skip, none, unanswered}
-use Rattle.register.specs.Types.{Book}
+use Rattle.register.specs.declared.book.Book.{Book}
 use Rattle.register.specs.Books.{book_of}
 use Rattle.register.specs.Refusals.{finalises, not_final}
 use Rattle.register.proofs.Ranges.{fit_counts}
